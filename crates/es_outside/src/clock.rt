@@ -1,4 +1,4 @@
-ghost use Rattle.std.specs.Prelude.{◌≡◌, ℕ, ◌≤◌, max, Option, Some, unwrap_or};
+ghost use Rattle.std.specs.Prelude.{◌≡◌, ℕ, max, Option, Some};
 ghost use Rattle.es_outside.specs.Told.{Answers};
 ghost use Rattle.es_outside.specs.Memory.{Dial};
 

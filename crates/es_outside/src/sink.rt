@@ -1,6 +1,6 @@
-ghost use Rattle.std.specs.Prelude.{◌≡◌, ℕ, ◌+◌, ◌-◌, ◌<◌, ◌≤◌, ◌↔◌, ◌⊎◌, ◌++◌, [], List, length, take, Option, Some, Contains, IfOk, OnErr, IsErr, is_ok, if◌then◌else◌};
+ghost use Rattle.std.specs.Prelude.{◌≡◌, ℕ, ◌<◌, ◌≤◌, ◌++◌, [], List, length, Option, Some, Contains, IfOk, OnErr, IsErr, MatchResult, is_ok, if◌then◌else◌};
 ghost use Rattle.es_outside.specs.Told.{Rose, Takes};
-ghost use Rattle.es_outside.specs.Memory.{Drain, counted, taken};
+ghost use Rattle.es_outside.specs.Memory.{Drain, counted, taken, took, took_none};
 
 use crate::Failed;
 use es_types::{Bytes, Items, NoMemory};
@@ -95,6 +95,7 @@ impl Sink for MemSink {
         ensures taken { IfOk result (λ count. count ≡ taken self.old (length piece.now)) }
         ensures fails { Contains self.old.failing (counted self.old.calls) → IsErr result }
         ensures calls { self.new.calls ≡ counted self.old.calls }
+        ensures becomes { MatchResult result (λ count. self.new ≡ took self.old piece.now count) (λ _e. self.new ≡ took_none self.old) }
     {
         self.calls = self.calls.saturating_add(1);
         let left = self.room as usize - self.bytes.as_slice().len();

@@ -1,6 +1,6 @@
-ghost use Rattle.std.specs.Prelude.{◌≡◌, ℕ, ◌+◌, ◌<◌, ◌≤◌, ◌↔◌, List, length, take, drop, min, Option, Some, Contains, IfOk, OnOk, OnErr, IsErr};
+ghost use Rattle.std.specs.Prelude.{◌≡◌, ℕ, ◌<◌, ◌≤◌, ◌↔◌, List, length, take, drop, min, Option, Some, Contains, IfOk, OnErr, IsErr, MatchResult};
 ghost use Rattle.es_outside.specs.Told.{Gives, Rose};
-ghost use Rattle.es_outside.specs.Memory.{Feed, counted, given};
+ghost use Rattle.es_outside.specs.Memory.{Feed, counted, gave, gave_none, given};
 
 use es_types::{Bytes, Items};
 use std::marker::Model;
@@ -81,6 +81,8 @@ impl Source for MemSource {
         ensures given { IfOk result (λ count. count ≡ given self.old (length room.old)) }
         ensures fails { IsErr result ↔ Contains self.old.failing (counted self.old.calls) }
         ensures calls { self.new.calls ≡ counted self.old.calls }
+        ensures becomes { MatchResult result (λ count. self.new ≡ gave self.old count) (λ _e. self.new ≡ gave_none self.old) }
+        ensures rest { MatchResult result (λ count. drop count room.new ≡ drop count room.old) (λ _e. room.new ≡ room.old) }
     {
         self.calls = self.calls.saturating_add(1);
         if self.failing.as_slice().contains(&self.calls) {
@@ -97,6 +99,7 @@ impl Source for MemSource {
 fn fill(bytes: &[u8], piece: u32, room: &mut [u8]) -> usize
     ensures count { result ≡ min (min piece (length room.old)) (length bytes.now) }
     ensures same { take result room.new ≡ take result bytes.now }
+    ensures rest { drop result room.new ≡ drop result room.old }
 {
     let count = (piece as usize).min(room.len()).min(bytes.len());
     room[..count].copy_from_slice(&bytes[..count]);

@@ -1,6 +1,6 @@
 -- Which texts are names, and which numbers are times.
-use Rattle.std.specs.Prelude.{Bool, ℕ, ◌<◌, ◌≤◌, ◌^◌, ◌*◌, ◌==◌, ◌&&◌, ◌||◌, not, nat_le, nat_lt, List, length, slice_index, IsTrue}
-use Rattle.std.specs.List.{list_all, list_any}
+use Rattle.std.specs.Prelude.{Bool, ℕ, ◌==◌, ◌&&◌, ◌||◌, not, nat_le, nat_lt, List, length, slice_index}
+use Rattle.std.specs.List.{list_all}
 
 -- a to z, or 0 to 9
 abbrev pub is_lower_or_digit : ℕ → Bool

@@ -92,19 +92,14 @@ fn names_index(text: &[u8]) -> bool
 {
     match text {
         [] => false,
-        [first, ..] => {
-            text.len() <= 255
-                && lower_or_digit(*first)
-                && all_index_bytes(text)
-        }
+        [first, ..] => { text.len() <= 255 && lower_or_digit(*first) && all_index_bytes(text) }
     }
 }
 
 fn all_index_bytes(text: &[u8]) -> bool
     ensures { result ≡ list_all is_index_byte text.now }
 {
-    text.iter()
-        .all(|b| lower_or_digit(*b) || *b == b'_' || *b == b'-' || *b == b'.')
+    text.iter().all(|b| lower_or_digit(*b) || *b == b'_' || *b == b'-' || *b == b'.')
 }
 
 fn lower_or_digit(b: u8) -> bool

@@ -1,5 +1,5 @@
 -- What was filled in is the front of what was left.
-use Rattle.std.proofs.Common.{◌≡◌, ◌+◌, List, ℕ, Some, length, take, drop, min, ap, subst, ◌∙◌, arith}
+use Rattle.std.proofs.Common.{◌≡◌, ◌+◌, List, ℕ, Some, length, take, drop, min, ap, subst, ◌∙◌}
 use Rattle.es_outside.specs.Told.{Read}
 use Rattle.es_outside.specs.Memory.{Feed}
 use Rattle.es_outside.proofs.Filled.{filled}
@@ -13,5 +13,5 @@ returns-clause-bytes c =
     let is : count ≡ min (min s.piece (length c.args.room.now)) (length (drop s.at s.bytes)) = c.fill-count.ensures.count ∙ ap (λ (l : List ℕ). min (min s.piece (length c.args.room.now)) (length l)) back in
     let same : take count c.fill-count.new.room ≡ take count (drop s.at s.bytes) = c.fill-count.ensures.same ∙ ap (take count) back in
     subst (λ (left : List ℕ). Read left (Some (drop (s.at + count) s.bytes)) c.fill-count.new.room count)
-      (ap (λ (f : Feed). f.left) c.self.view_is)
-      (filled s.bytes c.fill-count.new.room s.at count s.piece (length c.args.room.now) c.self.invariant.1 c.requires is same)
+    (ap (λ (f : Feed). f.left) c.self.view_is)
+    (filled s.bytes c.fill-count.new.room s.at count s.piece (length c.args.room.now) c.self.invariant.1 c.requires is same)
