@@ -1,0 +1,32 @@
+ghost use Rattle.es_node.specs.declared.fault.RestFault.TheVariants.{NoMemory};
+ghost use Rattle.std.specs.Prelude.{◌≡◌};
+
+use es_types::Text;
+use std::alloc::AllocError;
+
+/// Why a request is refused.
+#[derive(Debug, Drop)]
+pub enum RestFault {
+    /// A form that isn't built yet.
+    NotBuilt,
+    /// A document that is no JSON object.
+    BadBody,
+    /// The history has as many entries as it may have.
+    Spent,
+    /// There is no index of that name.
+    NoIndex(Text),
+    /// No context of that id is live.
+    NoContext(Text),
+    /// As many contexts as may be are live.
+    TooMany(u64),
+    ShardFull,
+    NoMemory,
+}
+
+impl From<AllocError> for RestFault {
+    ghost from_gives = { λ _ fault. fault ≡ NoMemory };
+
+    fn from(_: AllocError) -> RestFault {
+        RestFault::NoMemory
+    }
+}

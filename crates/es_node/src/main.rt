@@ -1,0 +1,53 @@
+//! `es_node`: the program of the search service. `es_node replay` reads HTTP requests from standard input and
+//! writes their responses to standard output.
+#![tactic(auto)]
+
+mod adapter;
+mod ask;
+mod body;
+mod connection;
+mod converse;
+mod fault;
+mod found;
+mod frame;
+mod ids;
+mod refused;
+mod reply;
+mod run;
+mod solo;
+#[cfg(test)]
+mod tests;
+
+use crate::adapter::{Input, Output};
+use crate::run::{Status, run};
+use es_types::Text;
+use std::alloc::Global;
+use std::process::ExitCode;
+use std::{env, io};
+
+/// The words of the command, without the program's name.
+fn words(rt: &HostRuntime, alloc: Global) -> io::Result<Vec<Text>> {
+    let mut words = Vec::new(alloc);
+    for word in env::args(rt)?.skip(1) {
+        words.push(Text::of(word))?;
+    }
+    Ok(words)
+}
+
+fn main(rt: HostRuntime) -> io::Result<ExitCode> {
+    let alloc = rt.alloc();
+    let words = words(&rt, alloc)?;
+    let mut input = Input {
+        reader: rt.stdin(),
+        faults: 0,
+    };
+    let mut output = Output {
+        writer: io::writer(&rt),
+        faults: 0,
+    };
+    let status = run(alloc, &words, &mut input, &mut output);
+    if status == Status::Usage {
+        eprintln!(rt; "usage: es_node replay|serve|generate")?;
+    }
+    Ok(ExitCode::from(status.code()))
+}

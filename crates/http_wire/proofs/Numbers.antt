@@ -1,0 +1,95 @@
+-- The header lines of a head, and the number that a length is.
+use Rattle.std.proofs.Common.{◌≡◌, ℕ, ◌+◌, ◌-◌, ◌*◌, ◌<◌, ◌≤◌, ◌&&◌, ◌||◌, not, suc, Bool, true, false, cond, ltb, leb, List, [], ◌∷◌, length, drop, get_or, Option, Some, None, refl, sym, ap, ◌∙◌, arith}
+use Rattle.std.specs.Char.{digit_value, is_ascii_digit}
+use Rattle.std.specs.List.{list_all, list_any, position_or_len}
+use Rattle.std.specs.Str.Parse.{digits_value, digits_value_after}
+use Rattle.std.proofs.lemmas.Bool.{and_left, and_right, cond-false, cond-true, lt-leb, lt-ltb, le-ltb, leb-true, and_parts}
+use Rattle.std.proofs.lemmas.List.{drop_more}
+use Rattle.http_wire.specs.Heads.{body_limit, length_of, number_of}
+
+abbrev some : List ℕ → Bool
+some digits = ltb 0 (length digits)
+
+abbrev few : List ℕ → Bool
+few digits = leb (length digits) 18
+
+abbrev all : List ℕ → Bool
+all digits = list_all is_ascii_digit digits
+
+abbrev low : List ℕ → Bool
+low digits = leb (digits_value 10 digits) body_limit
+
+no_number : (digits : List ℕ) → (some digits && (few digits && (all digits && low digits))) ≡ false → number_of digits ≡ None
+no_number digits h = cond-false (some digits && (few digits && (all digits && low digits))) (Some (digits_value 10 digits)) None h
+
+pub number_bad : (digits : List ℕ) → list_all is_ascii_digit digits ≡ false → number_of digits ≡ None
+number_bad digits h =
+    no_number digits (and_right (some digits) (few digits && (all digits && low digits)) (and_right (few digits) (all digits && low digits) (and_left (all digits) (low digits) h)))
+
+pub number_big : (digits : List ℕ) → body_limit < digits_value 10 digits → number_of digits ≡ None
+number_big digits h =
+    no_number digits (and_right (some digits) (few digits && (all digits && low digits)) (and_right (few digits) (all digits && low digits) (and_right (all digits) (low digits) (lt-leb (digits_value 10 digits) body_limit h))))
+
+-- a number that is over the limit stays so
+pub value_grows : (value : ℕ) (digits : List ℕ) → value ≤ digits_value_after 10 value digits
+value_grows value [] = omega arith
+value_grows value (d ∷ digits) =
+    let more = value_grows (value * 10 + digit_value d) digits in omega (arith, more)
+
+pub value_more : (value : ℕ) (digits : List ℕ) (i : ℕ) → i < length digits
+    → digits_value_after 10 value (drop i digits) ≡ digits_value_after 10 (value * 10 + digit_value (get_or digits i 0)) (drop (i + 1) digits)
+value_more value digits i h = ap (λ (l : List ℕ). digits_value_after 10 value l) (drop_more digits i 0 h)
+
+pub digit_is : (d : ℕ) → 48 ≤ d → d ≤ 57 → digit_value d ≡ d - 48
+digit_is d low high =
+    cond-false (ltb d 48) 36 _ (le-ltb d 48 low) ∙ cond-true (ltb d 58) (d - 48) _ (lt-ltb d 58 (omega arith))
+
+-- the length that is found, where one was found before
+abbrev pub found_in : Option ℕ → List (List ℕ × List ℕ) → Option ℕ
+found_in None lines = length_of lines
+found_in (Some n) [] = Some n
+found_in (Some n) (line ∷ lines) = None
+
+pub found_first : (n : ℕ) (line : List ℕ × List ℕ) (lines : List (List ℕ × List ℕ)) → number_of line.1 ≡ Some n → found_in (Some n) lines ≡ length_of (line ∷ lines)
+found_first n line [] h = sym h
+found_first n line (other ∷ lines) h = refl
+
+pub found_bad : (line : List ℕ × List ℕ) (lines : List (List ℕ × List ℕ)) → number_of line.1 ≡ None → length_of (line ∷ lines) ≡ None
+found_bad line [] h = h
+found_bad line (other ∷ lines) h = refl
+
+-- a length is within the limit
+number_small : (digits : List ℕ) (n : ℕ) → number_of digits ≡ Some n → n ≤ body_limit
+number_small digits n h =
+    let test : Bool = some digits && (few digits && (all digits && low digits)) in
+    let picked : (v : Bool) → test ≡ v → cond v (Some (digits_value 10 digits)) None ≡ Some n
+    = λ v e. ap (λ t. cond t (Some (digits_value 10 digits)) None) (sym e) ∙ h in
+    elim test as (λ v. test ≡ v → n ≤ body_limit) [
+      | true ↦ λ e.
+          let is : Some (digits_value 10 digits) ≡ Some n = picked true e in
+          let same : digits_value 10 digits ≡ n = cc in
+          let a = and_parts (some digits) (few digits && (all digits && low digits)) e in
+          let b = and_parts (few digits) (all digits && low digits) a.1 in
+          let c = and_parts (all digits) (low digits) b.1 in
+          let d = leb-true (digits_value 10 digits) body_limit c.1 in
+          omega (arith, d, same)
+      | false ↦ λ e. let is : ◌≡◌ {A = Option ℕ} None (Some n) = picked false e in let no : ⊥ = cc in absurd no
+    ] refl
+
+pub length_small : (lines : List (List ℕ × List ℕ)) (n : ℕ) → length_of lines ≡ Some n → n ≤ body_limit
+length_small [] n h = let z : 0 ≡ n = cc in omega (arith, z)
+length_small (line ∷ []) n h = number_small line.1 n h
+length_small (line ∷ other ∷ lines) n h = let no : ⊥ = cc in absurd no
+
+-- no mark is found where the place of the first is the end
+pub no_mark : {X : Type 0} (test : X → Bool) (xs : List X) → position_or_len test xs ≡ length xs → list_any test xs ≡ false
+no_mark test [] h = refl
+no_mark test (x ∷ xs) h =
+    elim (test x) as (λ v. test x ≡ v → (v || list_any test xs) ≡ false) [
+      | true ↦ λ e.
+          let k : 0 ≡ length (x ∷ xs) = ap (λ v. cond (not v) (1 + position_or_len test xs) 0) (sym e) ∙ h in
+          let no : ⊥ = omega (arith, k) in absurd no
+      | false ↦ λ e.
+          let k : 1 + position_or_len test xs ≡ suc (length xs) = ap (λ v. cond (not v) (1 + position_or_len test xs) 0) (sym e) ∙ h in
+          no_mark test xs (omega (arith, k))
+    ] refl

@@ -1,0 +1,16 @@
+use es_types::{Bytes, Text};
+use http::Method;
+
+/// A request as it was sent. `path` and `query` are the target up to its first `?` and behind it, `moment` is the
+/// moment that it hands in, and `last` says that the connection ends with it.
+#[derive(Drop)]
+pub struct Request {
+    pub method: Method,
+    pub path: Text,
+    pub query: Bytes,
+    /// Whether the target has a `?`.
+    pub has_query: bool,
+    pub moment: Option<Bytes>,
+    pub body: Bytes,
+    pub last: bool,
+}

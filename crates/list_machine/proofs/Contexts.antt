@@ -1,0 +1,103 @@
+-- A context is found by its number from its opening on, and by no search before.
+use Rattle.std.proofs.Common.{◌≡◌, ℕ, ◌+◌, ◌<◌, ◌≤◌, ◌==◌, Bool, true, false, cond, inl, inr, List, [], ◌∷◌, ◌++◌, length, Option, Some, None, All, refl, sym, ap, ap₂, ◌∙◌, arith, append-nil, append_assoc, eq-eqb, ne_eqb}
+use Rattle.std.specs.Option.{option_or}
+use Rattle.std.proofs.lemmas.Bool.{cond-true, cond-false}
+use Rattle.std.proofs.lemmas.List.Elements.{All-head, All-tail}
+use Rattle.std.proofs.lemmas.List.Folds.{find-append}
+use Rattle.list_machine.specs.declared.event.Reply.{Reply}
+use Rattle.list_machine.specs.declared.event.Reply.TheVariants.{Opened, Found, TooMany, Missing}
+use Rattle.list_machine.specs.declared.search.SearchRequest.{SearchRequest}
+use Rattle.list_machine.specs.declared.search.Answer.{Answer}
+use Rattle.list_machine.specs.Views.{answer}
+use Rattle.list_machine.specs.State.{State, Index, Context, IsSound, context_of, is_live, view_of}
+use Rattle.list_machine.specs.Step.{search_pit, step}
+use Rattle.list_machine.specs.Run.{History, run}
+use Rattle.list_machine.proofs.Moves.{Moves, opened}
+use Rattle.list_machine.proofs.Sound.{entry_moves}
+
+-- contexts are only added, and the next number never falls
+pub record Later (old new : State) : Type 0 where
+  pub more : List Context
+  pub contexts : new.contexts ≡ old.contexts ++ more
+  pub next : old.next ≤ new.next
+
+-- a move goes on
+moves_later : (old new : State) → Moves (λ _. Unit {0}) old new → Later old new
+moves_later old new (inl m) = record { more = []; contexts = m.contexts ∙ sym (append-nil old.contexts); next = omega (arith, m.next) }
+moves_later old new (inr (inl m)) = record { more = []; contexts = m.contexts ∙ sym (append-nil old.contexts); next = omega (arith, m.next) }
+moves_later old new (inr (inr m)) =
+    record { more = record { number = old.next; view = view_of m.index; expiry = m.expiry } ∷ []; contexts = m.contexts; next = omega (arith, m.next) }
+
+-- one after the other
+later_on : (a b c : State) → Later a b → Later b c → Later a c
+later_on a b c p q =
+    record {
+      more = p.more ++ q.more;
+      contexts = q.contexts ∙ ap (λ l. l ++ q.more) p.contexts ∙ append_assoc a.contexts p.more q.more;
+      next = omega (arith, p.next, q.next);
+    }
+
+-- a run goes on
+pub run_later : (history : History) (state : State) → Later state (run state history)
+run_later [] state = record { more = []; contexts = sym (append-nil state.contexts); next = omega arith }
+run_later (entry ∷ history) state =
+    later_on state (step state entry).0 (run (step state entry).0 history) (moves_later state (step state entry).0 (entry_moves state entry)) (run_later history (step state entry).0)
+
+-- a run in two parts
+pub run-append : (first second : History) (state : State) → run state (first ++ second) ≡ run (run state first) second
+run-append [] second state = refl
+run-append (entry ∷ first) second state = run-append first second (step state entry).0
+
+-- what is found stays found
+pub found_later : (old new : State) (number : ℕ) (context : Context) → Later old new → context_of number old.contexts ≡ Some context → context_of number new.contexts ≡ Some context
+found_later old new number context later e =
+    ap (context_of number) later.contexts
+    ∙ find-append (λ (context : Context). context.number == number) old.contexts later.more
+    ∙ ap (λ o. option_or o (context_of number later.more)) e
+
+-- no context has a number that is above all
+none_above : (contexts : List Context) (next number : ℕ) → next ≤ number → All (λ (context : Context). context.number < next) contexts → context_of number contexts ≡ None
+none_above [] next number l all = refl
+none_above (context ∷ contexts) next number l all =
+    let head = All-head (λ (context : Context). context.number < next) context contexts all in
+    cond-false (context.number == number) (Some context) (context_of number contexts) (ne_eqb context.number number (λ e. omega (arith, head)))
+    ∙ none_above contexts next number l (All-tail (λ (context : Context). context.number < next) context contexts all)
+
+-- a state that never issued a number has no context of it
+pub none_yet : (state : State) (number : ℕ) → IsSound state → state.next ≤ number → context_of number state.contexts ≡ None
+none_yet state number h l = none_above state.contexts state.next number l h.issued
+
+-- the two outcomes of an opening
+pub opening_cases : (full : Bool) (state : State) (keep : ℕ) (index : Index) (number : ℕ) (r : State × Reply) → r ≡ cond full (state, TooMany state.limits.pits) (opened state keep index, Opened state.next) → r.1 ≡ Opened number → (state.next ≡ number) × (r.0 ≡ opened state keep index)
+opening_cases true state keep index number r e o = let no : TooMany state.limits.pits ≡ Opened number = sym (ap (λ (r : State × Reply). r.1) e) ∙ o in absurd (cc)
+opening_cases false state keep index number r e o =
+    let yes : Opened state.next ≡ Opened number = sym (ap (λ (r : State × Reply). r.1) e) ∙ o in
+    let same : state.next ≡ number = cc in
+    (same, ap (λ (r : State × Reply). r.0) e)
+
+-- the context of the next number is found behind the others
+pub found_next : (state : State) (keep : ℕ) (index : Index) → IsSound state → context_of state.next (opened state keep index).contexts ≡ Some (record { number = state.next; view = view_of index; expiry = state.moment + keep })
+found_next state keep index h =
+    let new : Context = record { number = state.next; view = view_of index; expiry = state.moment + keep } in
+    find-append (λ (context : Context). context.number == state.next) state.contexts (new ∷ [])
+    ∙ ap (λ o. option_or o (context_of state.next (new ∷ []))) (none_yet state state.next h (omega arith))
+    ∙ cond-true (state.next == state.next) (Some new) None (eq-eqb state.next state.next refl)
+
+-- what a found answer is of
+pub search_cases : (state : State) (request : SearchRequest) (o : Option Context) (found : Answer) → (search_pit state request o).1 ≡ Found found → (context : Context) × (o ≡ Some context) × (found ≡ answer context.view request 0)
+search_cases state request None found e = absurd (cc)
+search_cases state request (Some context) found e = (context, refl, go (is_live state.moment context) e)
+  where
+    go : (live : Bool) → (cond {A = State × Reply} live (state, Found (answer context.view request 0)) (state, Missing)).1 ≡ Found found → found ≡ answer context.view request 0
+    go true e = cc
+    go false e = absurd (cc)
+
+-- one list cut at two places
+pub cut_twice : {X : Type 0} (xs ys us vs : List X) → xs ++ us ≡ ys ++ vs → length xs ≤ length ys → (rest : List X) × (ys ≡ xs ++ rest) × (us ≡ rest ++ vs)
+cut_twice [] ys us vs e l = (ys, refl, e)
+cut_twice (x ∷ xs) [] us vs e l = absurd (omega arith)
+cut_twice (x ∷ xs) (y ∷ ys) us vs e l =
+    let tails : xs ++ us ≡ ys ++ vs = cc in
+    let heads : y ≡ x = cc in
+    let r = cut_twice xs ys us vs tails (omega arith) in
+    (r.0, ap₂ (λ h t. h ∷ t) heads r.1, r.2)

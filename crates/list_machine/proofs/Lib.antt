@@ -1,0 +1,12 @@
+pub mod RowLemmas
+pub mod PlaceLemmas
+pub mod IndexLemmas
+pub mod ContextLemmas
+pub mod CountLemmas
+pub mod ShardLemmas
+pub mod Moves
+pub mod Sound
+pub mod Contexts
+pub mod PlacesInOrder
+pub mod Turns
+pub mod Sealed

@@ -1,0 +1,192 @@
+-- Each state that the machine comes to is sound.
+use Rattle.std.proofs.Common.{◌≡◌, ℕ, ◌+◌, ◌<◌, inl, inr, List, [], ◌∷◌, ◌++◌, length, map, Some, slice_get, slice_set, All, AllPairs, bytes_eq, refl, sym, ◌∙◌, subst, subst₂, arith, length-set}
+use Rattle.std.proofs.lemmas.List.Elements.{All-nil, All-cons, All-head, All-tail, All-set, All-push, All-weaker, All-map}
+use Rattle.std.proofs.lemmas.List.Quantifiers.{all_pairs_push}
+use Rattle.es_types.specs.declared.row.Op.{Op}
+use Rattle.list_machine.specs.declared.event.Entry.{Entry}
+use Rattle.list_machine.specs.declared.event.Limits.{Limits}
+use Rattle.list_machine.specs.declared.event.Event.{Event}
+use Rattle.list_machine.specs.declared.event.Event.TheVariants.{Write, Seal, Publish, OpenPit, Search, Quiet}
+use Rattle.list_machine.specs.declared.event.Change.TheVariants.{Put, Remove}
+use Rattle.list_machine.specs.Rows.{Shard}
+use Rattle.list_machine.specs.Objects.{AreObjects, PutsObjectOp}
+use Rattle.list_machine.specs.State.{State, Index, Context, IsSoundShard, IsSound, HasObjects, empty_shard, docs, start, view_of}
+use Rattle.list_machine.specs.Step.{step}
+use Rattle.list_machine.specs.Run.{History, run, state_of, PutsObject}
+use Rattle.list_machine.proofs.ShardLemmas.{publish_sound, append_sound, publish_objects}
+use Rattle.list_machine.proofs.Moves.{find_All, slice_get_All, put_index_All, Changed, Moves, OfEvent, step_moves}
+
+-- what a change of a shard keeps of an index, a move keeps of all indexes
+moves_indexes : (Q : Op → Type 0) (P : Index → Type 0) → ((index : Index) (at : ℕ) (shard changed : Shard) → slice_get index.shards at ≡ Some shard → Changed Q shard changed → P index → P (record index { shards = slice_set index.shards at changed })) → (old new : State) → Moves Q old new → All P old.indexes → All P new.indexes
+moves_indexes Q P keeps old new (inl m) all = subst (All P) (sym m.indexes) all
+moves_indexes Q P keeps old new (inr (inl m)) all =
+    let was : P m.index = find_All P (λ (index : Index). bytes_eq index.name m.name) old.indexes m.index all m.there in
+    subst (All P) (sym m.indexes) (put_index_All P (record m.index { shards = slice_set m.index.shards m.at m.changed }) old.indexes (keeps m.index m.at m.shard m.changed m.has m.changes was) all)
+moves_indexes Q P keeps old new (inr (inr m)) all = subst (All P) (sym m.indexes) all
+
+-- what a change keeps of a shard, a move keeps of all shards
+moves_shards : (Q : Op → Type 0) (P : Shard → Type 0) → ((old new : Shard) → Changed Q old new → P old → P new) → (old new : State) → Moves Q old new → All (λ (index : Index). All P index.shards) old.indexes → All (λ (index : Index). All P index.shards) new.indexes
+moves_shards Q P keeps =
+    moves_indexes Q (λ (index : Index). All P index.shards)
+    (λ index at shard changed has changes all. All-set P index.shards at changed (keeps shard changed changes (slice_get_All P index.shards at shard all has)) all)
+
+-- a changed shard is sound
+changed_sound : (Q : Op → Type 0) (old new : Shard) → Changed Q old new → IsSoundShard old → IsSoundShard new
+changed_sound Q old new (inl c) h = subst IsSoundShard (sym c.3) (append_sound old c.0 c.2 h)
+changed_sound Q old new (inr c) h = subst IsSoundShard (sym c.2) (publish_sound old c.0 c.1 h)
+
+-- the contexts' numbers rise and are below the next
+pub record SoundContexts (contexts : List Context) (next : ℕ) : Type 0 where
+  pub issued : All (λ (context : Context). context.number < next) contexts
+  pub numbers_differ : AllPairs (λ (a b : Context). a.number < b.number) contexts
+
+-- one more context, of the next number
+push_context : (contexts : List Context) (next : ℕ) (context : Context) → context.number ≡ next → SoundContexts contexts next → SoundContexts (contexts ++ context ∷ []) (next + 1)
+push_context contexts next context e h =
+    record {
+      issued = All-push (λ (c : Context). c.number < next + 1) contexts context (All-weaker (λ (c : Context). c.number < next) (λ (c : Context). c.number < next + 1) (λ x l. omega arith) contexts h.issued) (omega arith);
+      numbers_differ = all_pairs_push (λ (a b : Context). a.number < b.number) contexts context h.numbers_differ (λ k d l. let below = h.issued k d l in omega (arith, below, e));
+    }
+
+-- a move keeps the contexts sound
+moves_contexts : (Q : Op → Type 0) (old new : State) → Moves Q old new → SoundContexts old.contexts old.next → SoundContexts new.contexts new.next
+moves_contexts Q old new (inl m) h = subst₂ SoundContexts (sym m.contexts) (sym m.next) h
+moves_contexts Q old new (inr (inl m)) h = subst₂ SoundContexts (sym m.contexts) (sym m.next) h
+moves_contexts Q old new (inr (inr m)) h =
+    subst₂ SoundContexts (sym m.contexts) (sym m.next) (push_context old.contexts old.next (record { number = old.next; view = view_of m.index; expiry = m.expiry }) refl h)
+
+-- a move keeps a state sound
+moves_sound : (Q : Op → Type 0) (old new : State) → Moves Q old new → IsSound old → IsSound new
+moves_sound Q old new m h =
+    let contexts = moves_contexts Q old new m (record { issued = h.issued; numbers_differ = h.numbers_differ }) in
+    record {
+      shards = moves_shards Q IsSoundShard (changed_sound Q) old new m h.shards;
+      one_shard = moves_indexes Q (λ (index : Index). length index.shards ≡ 1) (λ index at shard changed has changes one. length-set index.shards at changed ∙ one) old new m h.one_shard;
+      issued = contexts.issued;
+      numbers_differ = contexts.numbers_differ;
+    }
+
+-- nothing is asked of an event's operation
+any_event : (event : Event) → OfEvent (λ _. Unit {0}) event
+any_event (Write index id change) = tt
+any_event (Seal index) = tt
+any_event (Publish index shard upto) = tt
+any_event (OpenPit index keep) = tt
+any_event (Search target request) = tt
+any_event Quiet = tt
+
+-- a step moves
+pub entry_moves : (state : State) (entry : Entry) → Moves (λ _. Unit {0}) state (step state entry).0
+entry_moves state entry = step_moves (λ _. Unit {0}) state entry (any_event entry.event)
+
+-- a step keeps a state sound
+pub step_sound : (state : State) (entry : Entry) → IsSound state → IsSound (step state entry).0
+step_sound state entry h = moves_sound (λ _. Unit {0}) state (step state entry).0 (entry_moves state entry) h
+
+-- a run keeps a state sound
+pub run_sound : (history : History) (state : State) → IsSound state → IsSound (run state history)
+run_sound [] state h = h
+run_sound (entry ∷ history) state h = run_sound history (step state entry).0 (step_sound state entry h)
+
+-- the empty shard is sound
+empty_sound : IsSoundShard empty_shard
+empty_sound = record {
+  ids_differ = λ i j d a b. absurd (omega arith);
+  rising = λ i j d a b. absurd (omega arith);
+  applied = λ k d l. absurd (omega arith);
+  few = omega arith;
+}
+
+-- the first state is sound
+start_sound : (limits : Limits) → IsSound (start limits)
+start_sound limits =
+    let index : Index = record { name = docs; shards = empty_shard ∷ [] } in
+    record {
+      shards = All-cons (λ (index : Index). All IsSoundShard index.shards) index [] (All-cons IsSoundShard empty_shard [] empty_sound (All-nil IsSoundShard)) (All-nil (λ (index : Index). All IsSoundShard index.shards));
+      one_shard = All-cons (λ (index : Index). length index.shards ≡ 1) index [] refl (All-nil (λ (index : Index). length index.shards ≡ 1));
+      issued = λ k d l. absurd (omega arith);
+      numbers_differ = λ i j d a b. absurd (omega arith);
+    }
+
+-- each state that the machine comes to is sound
+pub state_sound : (limits : Limits) (history : History) → IsSound (state_of limits history)
+state_sound limits history = run_sound history (start limits) (start_sound limits)
+
+-- the rows and the waiting puts of a shard are objects
+abbrev HasShardObjects : Shard → Type 0
+HasShardObjects shard = AreObjects shard.rows × All PutsObjectOp shard.pending
+
+-- a change keeps objects
+changed_objects : (old new : Shard) → Changed PutsObjectOp old new → HasShardObjects old → HasShardObjects new
+changed_objects old new (inl c) h =
+    subst HasShardObjects (sym c.3) (h.0, All-push PutsObjectOp old.pending c.0 h.1 c.1)
+changed_objects old new (inr c) h = subst HasShardObjects (sym c.2) (publish_objects old c.0 h.0 h.1)
+
+-- all that a state has are objects
+record Objects (state : State) : Type 0 where
+  shards : All (λ (index : Index). All HasShardObjects index.shards) state.indexes
+  views : All (λ (context : Context). All AreObjects context.view.shards) state.contexts
+
+-- a view of objects
+view_objects : (shards : List Shard) → All HasShardObjects shards → All AreObjects (map (λ (shard : Shard). shard.rows) shards)
+view_objects shards h =
+    All-map AreObjects (λ (shard : Shard). shard.rows) shards (All-weaker HasShardObjects (λ (shard : Shard). AreObjects shard.rows) (λ x o. o.0) shards h)
+
+-- a move keeps views of objects
+moves_views : (old new : State) → Moves PutsObjectOp old new → Objects old → All (λ (context : Context). All AreObjects context.view.shards) new.contexts
+moves_views old new (inl m) h = subst (All (λ (context : Context). All AreObjects context.view.shards)) (sym m.contexts) h.views
+moves_views old new (inr (inl m)) h = subst (All (λ (context : Context). All AreObjects context.view.shards)) (sym m.contexts) h.views
+moves_views old new (inr (inr m)) h =
+    let was : All HasShardObjects m.index.shards = find_All (λ (index : Index). All HasShardObjects index.shards) (λ (index : Index). bytes_eq index.name m.name) old.indexes m.index h.shards m.there in
+    subst (All (λ (context : Context). All AreObjects context.view.shards)) (sym m.contexts)
+    (All-push (λ (context : Context). All AreObjects context.view.shards) old.contexts (record { number = old.next; view = view_of m.index; expiry = m.expiry }) h.views (view_objects m.index.shards was))
+
+-- an event that puts an object has such an operation
+event_puts : (event : Event) → PutsObject event → OfEvent PutsObjectOp event
+event_puts (Write index id (Put doc)) o = o
+event_puts (Write index id Remove) o = tt
+event_puts (Seal index) o = tt
+event_puts (Publish index shard upto) o = tt
+event_puts (OpenPit index keep) o = tt
+event_puts (Search target request) o = tt
+event_puts Quiet o = tt
+
+-- a step keeps objects
+step_objects : (state : State) (entry : Entry) → PutsObject entry.event → Objects state → Objects (step state entry).0
+step_objects state entry o h =
+    let m = step_moves PutsObjectOp state entry (event_puts entry.event o) in
+    record {
+      shards = moves_shards PutsObjectOp HasShardObjects changed_objects state (step state entry).0 m h.shards;
+      views = moves_views state (step state entry).0 m h;
+    }
+
+-- a run keeps objects
+run_objects : (history : History) (state : State) → All (λ (entry : Entry). PutsObject entry.event) history → Objects state → Objects (run state history)
+run_objects [] state os h = h
+run_objects (entry ∷ history) state os h =
+    run_objects history (step state entry).0 (All-tail (λ (entry : Entry). PutsObject entry.event) entry history os)
+    (step_objects state entry (All-head (λ (entry : Entry). PutsObject entry.event) entry history os) h)
+
+-- the first state has nothing but objects
+start_objects : (limits : Limits) → Objects (start limits)
+start_objects limits =
+    let index : Index = record { name = docs; shards = empty_shard ∷ [] } in
+    record {
+      shards = All-cons (λ (index : Index). All HasShardObjects index.shards) index []
+          (All-cons HasShardObjects empty_shard [] ((λ k d l. absurd (omega arith)), (λ k d l. absurd (omega arith))) (All-nil HasShardObjects))
+          (All-nil (λ (index : Index). All HasShardObjects index.shards));
+      views = λ k d l. absurd (omega arith);
+    }
+
+-- where each put of the history is an object, so is all that the state has
+pub state_objects : (limits : Limits) (history : History) → All (λ (entry : Entry). PutsObject entry.event) history → HasObjects (state_of limits history)
+state_objects limits history os =
+    let state = state_of limits history in
+    let h = run_objects history (start limits) os (start_objects limits) in
+    record {
+      rows = All-weaker (λ (index : Index). All HasShardObjects index.shards) (λ (index : Index). All (λ (shard : Shard). AreObjects shard.rows) index.shards)
+          (λ index a. All-weaker HasShardObjects (λ (shard : Shard). AreObjects shard.rows) (λ shard o. o.0) index.shards a) state.indexes h.shards;
+      pending = All-weaker (λ (index : Index). All HasShardObjects index.shards) (λ (index : Index). All (λ (shard : Shard). All PutsObjectOp shard.pending) index.shards)
+          (λ index a. All-weaker HasShardObjects (λ (shard : Shard). All PutsObjectOp shard.pending) (λ shard o. o.1) index.shards a) state.indexes h.shards;
+      views = h.views;
+    }

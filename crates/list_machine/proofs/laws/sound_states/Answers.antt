@@ -1,0 +1,12 @@
+use Rattle.list_machine.proofs.Sound.{state_sound, state_objects}
+use Rattle.list_machine.proofs.Sealed.{one_number}
+use Rattle.list_machine.proofs.laws.sound_states.Goals as goal
+
+pub returns-clause-sound : goal.returns-clause-sound
+returns-clause-sound c = state_sound
+
+pub returns-clause-objects : goal.returns-clause-objects
+returns-clause-objects c = state_objects
+
+pub returns-clause-sealed : goal.returns-clause-sealed
+returns-clause-sealed c = one_number

@@ -1,0 +1,12 @@
+pub mod Rows
+pub mod Views
+pub mod Objects
+pub mod State
+pub mod Step
+pub mod Run
+pub mod Pages
+pub mod Serving
+pub mod Ran
+pub mod Stores
+pub mod Standing
+pub mod Paging

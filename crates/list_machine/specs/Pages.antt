@@ -1,0 +1,82 @@
+-- Pages of a point in time that are taken in turn.
+use Rattle.std.specs.Prelude.{◌≡◌, ℕ, ◌<◌, ℤ, List, [], ◌∷◌, ◌++◌, length, map, flat_map, Some, None}
+use Rattle.es_types.specs.declared.row.Value.TheVariants.{Long}
+use Rattle.list_machine.specs.declared.event.Entry.{Entry}
+use Rattle.list_machine.specs.declared.event.Event.TheVariants.{OpenPit, Search}
+use Rattle.list_machine.specs.declared.event.Target.TheVariants.{Pit}
+use Rattle.list_machine.specs.declared.event.Reply.TheVariants.{Opened, Found}
+use Rattle.list_machine.specs.declared.event.Limits.{Limits}
+use Rattle.list_machine.specs.declared.search.SearchRequest.{SearchRequest}
+use Rattle.list_machine.specs.declared.search.Answer.{Answer}
+use Rattle.list_machine.specs.declared.search.Hit.{Hit}
+use Rattle.list_machine.specs.Views.{View, enumeration, hit}
+use Rattle.list_machine.specs.State.{Index, index_of, view_of}
+use Rattle.list_machine.specs.Run.{History, state_of, reply_of, Stands}
+
+-- a search of the point in time with that number, and the page that it was answered
+pub record Turn (limits : Limits) (history : History) (number : ℕ) : Type 0 where
+  pub before : History
+  pub entry : Entry
+  pub request : SearchRequest
+  pub answer : Answer
+  pub stands : Stands history before entry
+  pub searches : entry.event ≡ Search (Pit number) request
+  pub found : reply_of limits before entry ≡ Found answer
+
+-- the values of the page's last hit, behind which the next page begins
+pub record EndsAt (hits : List Hit) (after : ℤ) : Type 0 where
+  pub front : List Hit
+  pub last : Hit
+  pub are : hits ≡ front ++ last ∷ []
+  pub shows : last.shown ≡ Long after ∷ []
+
+-- the later search begins behind the last hit of the earlier one
+pub record Follows {limits : Limits} {history : History} {number : ℕ} (earlier later : Turn limits history number) : Type 0 where
+  pub order : length earlier.before < length later.before
+  pub after : ℤ
+  pub ends : EndsAt earlier.answer.hits after
+  pub begins : later.request.after ≡ Some after
+
+abbrev pub GoesOn : {limits : Limits} {history : History} {number : ℕ} → Turn limits history number → List (Turn limits history number) → Type 0
+GoesOn turn [] = Unit {0}
+GoesOn turn (next ∷ turns) = Follows turn next × GoesOn next turns
+
+-- pages in turn: the first begins at the front, and each later one behind the one before
+abbrev pub InTurn : {limits : Limits} {history : History} {number : ℕ} → List (Turn limits history number) → Type 0
+InTurn [] = Unit {0}
+InTurn (turn ∷ turns) = (turn.request.after ≡ None) × GoesOn turn turns
+
+-- the hits of the pages, joined
+abbrev pub hits_of : {limits : Limits} {history : History} {number : ℕ} → List (Turn limits history number) → List Hit
+hits_of turns = flat_map (λ turn. turn.answer.hits) turns
+
+-- the last page has fewer hits than it was asked for
+abbrev pub EndsShort : {limits : Limits} {history : History} {number : ℕ} → List (Turn limits history number) → Type 0
+EndsShort [] = ⊥
+EndsShort (turn ∷ []) = length turn.answer.hits < turn.request.size
+EndsShort (turn ∷ next ∷ turns) = EndsShort (next ∷ turns)
+
+-- the view that a point in time got at its opening
+pub record Opens (limits : Limits) (history : History) (number : ℕ) (view : View) : Type 0 where
+  pub before : History
+  pub entry : Entry
+  pub index : List ℕ
+  pub keep : ℕ
+  pub found : Index
+  pub stands : Stands history before entry
+  pub opens : entry.event ≡ OpenPit index keep
+  pub opened : reply_of limits before entry ≡ Opened number
+  pub there : index_of index (state_of limits before).indexes ≡ Some found
+  pub sees : view ≡ view_of found
+
+-- all hits of a view, in order
+abbrev pub documents : View → SearchRequest → List Hit
+documents view request = map (hit view) (enumeration view request)
+
+-- Pages taken in turn are a prefix of the sorted matching documents of the frozen view, and all of them once
+-- a page is short.
+abbrev pub Enumerates : Limits → History → Type 0
+Enumerates limits history =
+    (number : ℕ) (view : View) (turns : List (Turn limits history number)) (request : SearchRequest)
+    → Opens limits history number view → InTurn turns
+    → (rest : List Hit) × (documents view request ≡ hits_of turns ++ rest) × (EndsShort turns → rest ≡ [])

@@ -1,0 +1,37 @@
+-- The run of the machine over a history.
+use Rattle.std.specs.Prelude.{◌≡◌, List, [], ◌∷◌, ◌++◌}
+use Rattle.list_machine.specs.declared.event.Entry.{Entry}
+use Rattle.list_machine.specs.declared.event.Event.{Event}
+use Rattle.list_machine.specs.declared.event.Event.TheVariants.{Write}
+use Rattle.list_machine.specs.declared.event.Change.TheVariants.{Put}
+use Rattle.list_machine.specs.declared.event.Reply.{Reply}
+use Rattle.list_machine.specs.declared.event.Limits.{Limits}
+use Rattle.list_machine.specs.Objects.{IsObject}
+use Rattle.list_machine.specs.State.{State, start}
+use Rattle.list_machine.specs.Step.{step}
+
+abbrev pub History : Type 0
+History = List Entry
+
+-- the state after these entries
+abbrev pub run : State → History → State
+run state [] = state
+run state (entry ∷ entries) = run (step state entry).0 entries
+
+-- the state after a history
+abbrev pub state_of : Limits → History → State
+state_of limits history = run (start limits) history
+
+-- the reply to an entry behind a history
+abbrev pub reply_of : Limits → History → Entry → Reply
+reply_of limits history entry = (step (state_of limits history) entry).1
+
+-- an entry stands behind the first entries of a history
+pub record Stands (history before : History) (entry : Entry) : Type 0 where
+  pub after : History
+  pub is : history ≡ before ++ entry ∷ after
+
+-- a put's source is a JSON object
+abbrev pub PutsObject : Event → Type 0
+PutsObject (Write index id (Put doc)) = IsObject doc.source
+PutsObject event = Unit {0}

@@ -1,0 +1,113 @@
+-- One step of the machine, and its reply.
+use Rattle.std.specs.Prelude.{ℕ, ◌+◌, ◌==◌, max, Bool, true, false, nat_le, nat_lt, if◌then◌else◌, List, [], ◌∷◌, ◌++◌, length, map, Option, Some, None, slice_get, slice_set}
+use Rattle.es_types.specs.declared.row.Op.{Op}
+use Rattle.es_types.specs.declared.row.Op.TheVariants.{Put as PutOp, Remove as RemoveOp}
+use Rattle.list_machine.specs.declared.event.Entry.{Entry}
+use Rattle.list_machine.specs.declared.event.Event.{Event}
+use Rattle.list_machine.specs.declared.event.Event.TheVariants.{Write, Seal, Publish, OpenPit, Search, Quiet}
+use Rattle.list_machine.specs.declared.event.Change.{Change}
+use Rattle.list_machine.specs.declared.event.Change.TheVariants.{Put, Remove}
+use Rattle.list_machine.specs.declared.event.Target.{Target}
+use Rattle.list_machine.specs.declared.event.Target.TheVariants.{Pit}
+use Rattle.list_machine.specs.declared.event.Wrote.{Wrote}
+use Rattle.list_machine.specs.declared.event.Wrote.TheVariants.{Created, Updated, Deleted, NotFound}
+use Rattle.list_machine.specs.declared.event.Reply.{Reply}
+use Rattle.list_machine.specs.declared.event.Reply.TheVariants.{Done, Wrote as WroteReply, Sealed, Opened, Found, NoIndex, Missing, TooMany, ShardFull}
+use Rattle.list_machine.specs.declared.search.SearchRequest.{SearchRequest}
+use Rattle.list_machine.specs.Rows.{Shard, has_id, last_number, publish, rows_to_come}
+use Rattle.list_machine.specs.Views.{answer}
+use Rattle.list_machine.specs.State.{State, Index, Context, index_of, put_index, context_of, is_live, live_contexts, view_of}
+
+-- the shard of a document: each index has one, until there is a way to make others
+abbrev pub home_of : List ℕ → ℕ → ℕ
+home_of id shards = 0
+
+-- as many rows and waiting operations as a shard may have
+abbrev pub shard_limit : ℕ
+shard_limit = 2147483647
+
+abbrev pub is_full : Shard → Bool
+is_full shard = nat_le shard_limit (length shard.rows + length shard.pending)
+
+-- the operation that a change of a document is
+abbrev pub op_of : List ℕ → Change → Op
+op_of id (Put doc) = PutOp id doc.source []
+op_of id Remove = RemoveOp id
+
+-- what a change did, by whether the document was there
+abbrev pub wrote : Change → Bool → Wrote
+wrote (Put doc) true = Updated
+wrote (Put doc) false = Created
+wrote Remove true = Deleted
+wrote Remove false = NotFound
+
+-- the state with this shard at that place of the index
+abbrev pub put_shard : State → Index → ℕ → Shard → State
+put_shard state index at shard = record state { indexes = put_index (record index { shards = slice_set index.shards at shard }) state.indexes }
+
+abbrev pub append_op : Shard → Op → Shard
+append_op shard op = record shard { pending = shard.pending ++ op ∷ [] }
+
+abbrev pub write_shard : State → Index → List ℕ → Change → Option Shard → State × Reply
+write_shard state index id change None = (state, NoIndex)
+write_shard state index id change (Some shard) =
+    if is_full shard
+    then (state, ShardFull)
+    else (
+      put_shard state index (home_of id (length index.shards)) (append_op shard (op_of id change)),
+      WroteReply (wrote change (has_id id (rows_to_come shard))) (last_number shard + 1),
+    )
+
+abbrev pub write : State → List ℕ → Change → Option Index → State × Reply
+write state id change None = (state, NoIndex)
+write state id change (Some index) = write_shard state index id change (slice_get index.shards (home_of id (length index.shards)))
+
+abbrev pub seal : State → Option Index → State × Reply
+seal state None = (state, NoIndex)
+seal state (Some index) = (state, Sealed (map last_number index.shards))
+
+abbrev pub publish_shard : State → Index → ℕ → ℕ → Option Shard → State × Reply
+publish_shard state index at upto None = (state, Done)
+publish_shard state index at upto (Some shard) =
+    if nat_lt (last_number shard) upto then (state, Done) else (put_shard state index at (publish shard upto), Done)
+
+abbrev pub publish_index : State → ℕ → ℕ → Option Index → State × Reply
+publish_index state at upto None = (state, Done)
+publish_index state at upto (Some index) = publish_shard state index at upto (slice_get index.shards at)
+
+abbrev pub open_pit : State → ℕ → Option Index → State × Reply
+open_pit state keep None = (state, NoIndex)
+open_pit state keep (Some index) =
+    if live_contexts state == state.limits.pits
+    then (state, TooMany state.limits.pits)
+    else (
+      record state {
+        next = state.next + 1;
+        contexts = state.contexts ++ record { number = state.next; view = view_of index; expiry = state.moment + keep } ∷ [];
+      },
+      Opened state.next,
+    )
+
+abbrev pub search_pit : State → SearchRequest → Option Context → State × Reply
+search_pit state request None = (state, Missing)
+search_pit state request (Some context) =
+    if is_live state.moment context then (state, Found (answer context.view request 0)) else (state, Missing)
+
+abbrev pub search : State → SearchRequest → Target → State × Reply
+search state request (Pit number) = search_pit state request (context_of number state.contexts)
+
+-- what an event makes of the state, and its reply
+abbrev pub happen : State → Event → State × Reply
+happen state (Write index id change) = write state id change (index_of index state.indexes)
+happen state (Seal index) = seal state (index_of index state.indexes)
+happen state (Publish index shard upto) = publish_index state shard upto (index_of index state.indexes)
+happen state (OpenPit index keep) = open_pit state keep (index_of index state.indexes)
+happen state (Search target request) = search state request target
+happen state Quiet = (state, Done)
+
+-- the state once a moment has come: moments never fall
+abbrev pub at_moment : State → ℕ → State
+at_moment state moment = record state { moment = max state.moment moment }
+
+abbrev pub step : State → Entry → State × Reply
+step state entry = happen (at_moment state entry.moment) entry.event

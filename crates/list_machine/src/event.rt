@@ -1,0 +1,93 @@
+use crate::{Answer, SearchRequest};
+use es_types::{Doc, DocId, IndexName, Items, KeepAlive, Moment};
+
+/// What becomes of a document.
+#[derive(Debug, Drop)]
+pub enum Change {
+    Put(Doc),
+    Remove,
+}
+
+/// What a search looks at: the view of a point in time.
+#[derive(Debug, Drop)]
+pub enum Target {
+    Pit { number: u64 },
+}
+
+/// One step of the machine.
+#[derive(Debug, Drop)]
+pub enum Event {
+    /// Puts or removes a document; a search sees it once it is published.
+    Write {
+        index: IndexName,
+        id: DocId,
+        change: Change,
+    },
+    /// Asks for the number of the last operation of each shard.
+    Seal {
+        index: IndexName,
+    },
+    /// Applies the operations of a shard up to a number, so that searches see them.
+    Publish {
+        index: IndexName,
+        shard: u32,
+        upto: u64,
+    },
+    /// Opens a point in time: a view of the index as it is now.
+    OpenPit {
+        index: IndexName,
+        keep: KeepAlive,
+    },
+    /// Searches a view.
+    Search {
+        target: Target,
+        request: SearchRequest,
+    },
+    /// Changes nothing.
+    Quiet,
+}
+
+/// An entry of a history: an event, who made it, and at which moment.
+#[derive(Debug, Drop)]
+pub struct Entry {
+    pub who: u64,
+    pub moment: Moment,
+    pub event: Event,
+}
+
+/// What a write did.
+#[derive(Clone, Copy, Debug, PartialEq, Eq)]
+pub enum Wrote {
+    Created,
+    Updated,
+    Deleted,
+    NotFound,
+}
+
+/// What the machine replies to an event. Those from `Spent` on refuse it.
+#[derive(Debug, Drop)]
+pub enum Reply {
+    Done,
+    /// `seq` is the operation's number in its shard, from 1.
+    Wrote { result: Wrote, seq: u64 },
+    /// The number of the last operation of each shard.
+    Sealed(Items<u64>),
+    /// The number by which a search names the new point in time.
+    Opened { number: u64 },
+    Found(Answer),
+    /// The history has as many entries as it may have.
+    Spent,
+    NoIndex,
+    /// No point in time of that number is live.
+    Missing,
+    /// As many points in time as may be are live.
+    TooMany { limit: u64 },
+    ShardFull,
+}
+
+/// How many points in time may be live, and how many entries a history may have (1 to 2^53).
+#[derive(Clone, Copy, Debug, PartialEq, Eq)]
+pub struct Limits {
+    pub pits: u64,
+    pub entries: u64,
+}

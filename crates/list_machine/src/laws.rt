@@ -1,0 +1,24 @@
+ghost use Rattle.std.specs.Prelude.{◌≡◌, ℕ, List, length, All};
+ghost use Rattle.list_machine.specs.declared.event.Entry.{Entry};
+ghost use Rattle.list_machine.specs.declared.event.Limits.{Limits};
+ghost use Rattle.list_machine.specs.Pages.{Enumerates};
+ghost use Rattle.list_machine.specs.Run.{History, PutsObject, reply_of, state_of};
+ghost use Rattle.list_machine.specs.State.{HasObjects, IsSound};
+
+use crate::{Event, Reply};
+
+/// Pages of a point in time that are taken in turn are a prefix of the sorted matching documents of its view,
+/// and all of them once a page is short, in every history.
+pub fn pages_in_turn()
+    ensures { (limits : Limits) (history : History) → Enumerates limits history }
+{}
+
+/// Every state that the machine comes to is sound. Where each put of the history is a JSON object, so is each row.
+pub fn sound_states()
+    ensures sound { (limits : Limits) (history : History) → IsSound (state_of limits history) }
+    ensures objects { (limits : Limits) (history : History)
+        → All (λ (entry : Entry). PutsObject entry.event) history → HasObjects (state_of limits history) }
+    // A Seal answers one number, since each index has one shard.
+    ensures sealed { (limits : Limits) (history : History) (entry : Entry) (index numbers : List ℕ)
+        → entry.event ≡ Event.Seal index → reply_of limits history entry ≡ Reply.Sealed numbers → length numbers ≡ 1 }
+{}

@@ -1,0 +1,128 @@
+ghost use Rattle.std.specs.Prelude.{◌≡◌, ◌+◌, ◌≤◌, ◌==◌, IfOk, OnErr, count_by, find, option_copied};
+ghost use Rattle.list_machine.specs.declared.event.Event.TheVariants.{OpenPit, Seal, Search};
+ghost use Rattle.list_machine.specs.State.{State, context_of, is_live, view_of};
+ghost use Rattle.list_machine.specs.Step.{happen, search_pit};
+ghost use Rattle.list_machine.specs.Stores.{AreNumbered, contexts_seen, context_seen, index_seen, indexes_seen, most_entries, state_seen};
+
+use crate::paging::answer;
+use crate::store::{ContextStore, IndexStore, Store, last_number, place_of};
+use crate::{Reply, SearchRequest, Target};
+use es_types::{Copied, IndexName, Items, KeepAlive, Moment, NoMemory, Row};
+use std::alloc::Global;
+
+/// The number of the last operation of each shard.
+pub fn seal(alloc: Global, indexes: &[IndexStore], name: &IndexName) -> Result<Reply, NoMemory>
+    requires { AreNumbered most_entries (indexes_seen indexes.now) }
+    ensures { IfOk result (λ reply. (state : State) → happen (record state { indexes = indexes_seen indexes.now }) (Seal name.now)
+        ≡ (record state { indexes = indexes_seen indexes.now }, reply)) }
+{
+    let Some(at) = place_of(indexes, name) else {
+        return Ok(Reply::NoIndex);
+    };
+    let mut numbers = Vec::new(alloc);
+    numbers.push(last_number(&indexes[at].shard))?;
+    Ok(Reply::Sealed(Items::of(numbers)))
+}
+
+/// Copies the rows of an index into a new context, unless as many as may be are live.
+pub fn open_pit(
+    alloc: Global,
+    store: &mut Store,
+    moment: Moment,
+    name: &IndexName,
+    keep: &KeepAlive,
+) -> Result<Reply, NoMemory>
+    requires { store.old.next ≤ most_entries + 1 }
+    ensures ok { IfOk result (λ reply. happen (record (state_seen store.old) { moment = moment }) (OpenPit name.now keep.now)
+        ≡ (record (state_seen store.new) { moment = moment }, reply)) }
+    ensures err { OnErr result (state_seen store.new ≡ state_seen store.old) }
+{
+    let Some(at) = place_of(&store.indexes, name) else {
+        return Ok(Reply::NoIndex);
+    };
+    let limit = store.limits.pits;
+    if live_contexts(&store.contexts, moment) == limit {
+        return Ok(Reply::TooMany { limit });
+    }
+    let number = store.next;
+    let expiry = moment.millis() + keep.millis();
+    let context = make_context(alloc, &store.indexes[at], number, expiry)?;
+    store.contexts.push(context)?;
+    store.next = number + 1;
+    Ok(Reply::Opened { number })
+}
+
+fn live_contexts(contexts: &[ContextStore], moment: Moment) -> u64
+    ensures { result ≡ count_by (is_live moment) (contexts_seen contexts.now) }
+{
+    let moment = moment.millis();
+    contexts.iter().filter(|c| moment <= c.expiry).count() as u64
+}
+
+fn make_context(
+    alloc: Global,
+    index: &IndexStore,
+    number: u64,
+    expiry: u64,
+) -> Result<ContextStore, NoMemory>
+    ensures { IfOk result (λ context. context_seen context ≡ record { number = number; view = view_of (index_seen index.now); expiry = expiry }) }
+{
+    Ok(ContextStore {
+        number,
+        index: index.name.copy(alloc)?,
+        rows: copy_rows(alloc, &index.shard.rows)?,
+        expiry,
+    })
+}
+
+fn copy_rows(alloc: Global, rows: &[Row]) -> Result<Vec<Row>, NoMemory>
+    ensures { IfOk result (λ copies. copies.items ≡ rows.now) }
+{
+    let mut copies = Vec::with_capacity(alloc, rows.len())?;
+    for row in rows {
+        copies.push(row.copy(alloc)?)?;
+    }
+    Ok(copies)
+}
+
+/// Searches the view of a context that is live.
+pub fn search(
+    alloc: Global,
+    contexts: &[ContextStore],
+    moment: Moment,
+    target: &Target,
+    request: &SearchRequest,
+) -> Result<Reply, NoMemory>
+    ensures { IfOk result (λ reply. (state : State) → happen (record state { contexts = contexts_seen contexts.now; moment = moment }) (Search target.now request.now)
+        ≡ (record state { contexts = contexts_seen contexts.now; moment = moment }, reply)) }
+{
+    match target {
+        Target::Pit { number } => search_pit(alloc, contexts, moment, *number, request),
+    }
+}
+
+fn search_pit(
+    alloc: Global,
+    contexts: &[ContextStore],
+    moment: Moment,
+    number: u64,
+    request: &SearchRequest,
+) -> Result<Reply, NoMemory>
+    ensures { IfOk result (λ reply. (state : State) → search_pit (record state { contexts = contexts_seen contexts.now; moment = moment }) request.now (context_of number (contexts_seen contexts.now))
+        ≡ (record state { contexts = contexts_seen contexts.now; moment = moment }, reply)) }
+{
+    let Some(context) = context_at(contexts, number) else {
+        return Ok(Reply::Missing);
+    };
+    if moment.millis() <= context.expiry {
+        Ok(Reply::Found(answer(alloc, context, request)?))
+    } else {
+        Ok(Reply::Missing)
+    }
+}
+
+fn context_at(contexts: &[ContextStore], number: u64) -> Option<&ContextStore>
+    ensures { option_copied result ≡ find (λ context. context.number == number) contexts.now }
+{
+    contexts.iter().find(|context| context.number == number)
+}

@@ -1,0 +1,128 @@
+ghost use Rattle.std.specs.Prelude.{◌≡◌, ◌+◌, ◌<◌, ◌≤◌, ◌^◌, IfOk, OnOk, OnErr};
+ghost use Rattle.list_machine.specs.State.{docs, start};
+ghost use Rattle.list_machine.specs.Step.{happen, step};
+ghost use Rattle.list_machine.specs.Stores.{IsCounted, most_entries, state_seen};
+
+use crate::looking::{open_pit, seal, search};
+use crate::publishing::publish;
+use crate::store::{IndexStore, ShardStore, Store, later};
+use crate::writing::write;
+use crate::{Entry, Event, Limits, Reply};
+use es_types::{IndexName, Moment, NoMemory, Text};
+use std::alloc::Global;
+use std::marker::Model;
+
+/// The machine of one thread over plain lists. A step takes as long as its lists are long.
+#[derive(Drop)]
+pub struct Machine {
+    alloc: Global,
+    entries: u64,
+    store: Store,
+}
+
+impl Model for Machine {
+    ghost use Rattle.list_machine.specs.Ran.{Ran};
+
+    ghost Value = { Ran };
+
+    ghost use Rattle.list_machine.specs.Stores.{IsCounted, state_seen};
+
+    ghost view = { λ machine. record { state = state_seen machine.store; entries = machine.entries } };
+
+    ghost invariant = { λ machine. IsCounted machine.entries (state_seen machine.store) };
+}
+
+impl Machine {
+    /// A machine with the empty index `docs`.
+    pub fn make(alloc: Global, limits: Limits) -> Result<Machine, NoMemory>
+        requires some { 1 ≤ limits.entries }
+        requires bounded { limits.entries ≤ 2 ^ 53 }
+        ensures { IfOk result (λ machine. machine ≡ record { state = start limits; entries = 0 }) }
+    {
+        Ok(Machine {
+            alloc,
+            entries: 0,
+            store: make_store(alloc, limits)?,
+        })
+    }
+
+    /// Takes the step of an entry. After `NoMemory` nothing has changed.
+    pub fn step(&mut self, entry: &Entry) -> Result<Reply, NoMemory>
+        requires { self.old.entries < 2 ^ 53 }
+        ensures reply { IfOk result (λ reply. reply ≡ (step self.old.state entry.now).1) }
+        ensures state { OnOk result (self.new ≡ record { state = (step self.old.state entry.now).0; entries = self.old.entries + 1 }) }
+        ensures err { OnErr result (self.new ≡ self.old) }
+    {
+        let reply = take_step(self.alloc, &mut self.store, entry)?;
+        self.entries += 1;
+        Ok(reply)
+    }
+}
+
+fn make_store(alloc: Global, limits: Limits) -> Result<Store, NoMemory>
+    ensures { IfOk result (λ store. state_seen store ≡ start limits) }
+{
+    let mut indexes = Vec::new(alloc);
+    indexes.push(IndexStore {
+        name: docs_name(alloc)?,
+        shard: ShardStore {
+            base: 0,
+            rows: Vec::new(alloc),
+            pending: Vec::new(alloc),
+        },
+    })?;
+    Ok(Store {
+        limits,
+        moment: Moment::zero(),
+        next: 1,
+        indexes,
+        contexts: Vec::new(alloc),
+    })
+}
+
+fn docs_name(alloc: Global) -> Result<IndexName, NoMemory>
+    ensures { IfOk result (λ name. name ≡ docs) }
+{
+    let text = Text::of(String::from_str(alloc, "docs")?);
+    match IndexName::make(text) {
+        Ok(name) => Ok(name),
+        Err(_) => unreachable!(),
+    }
+}
+
+/// The step at the later one of the two moments.
+fn take_step(alloc: Global, store: &mut Store, entry: &Entry) -> Result<Reply, NoMemory>
+    requires { IsCounted most_entries (state_seen store.old) }
+    ensures ok { IfOk result (λ reply. step (state_seen store.old) entry.now ≡ (state_seen store.new, reply)) }
+    ensures err { OnErr result (state_seen store.new ≡ state_seen store.old) }
+{
+    let moment = later(store.moment, entry.moment);
+    let reply = reply_to(alloc, store, moment, &entry.event)?;
+    store.moment = moment;
+    Ok(reply)
+}
+
+fn reply_to(
+    alloc: Global,
+    store: &mut Store,
+    moment: Moment,
+    event: &Event,
+) -> Result<Reply, NoMemory>
+    requires { IsCounted most_entries (state_seen store.old) }
+    ensures ok { IfOk result (λ reply. happen (record (state_seen store.old) { moment = moment }) event.now
+        ≡ (record (state_seen store.new) { moment = moment }, reply)) }
+    ensures err { OnErr result (state_seen store.new ≡ state_seen store.old) }
+{
+    match event {
+        Event::Write { index, id, change } => write(alloc, &mut store.indexes, index, id, change),
+        Event::Seal { index } => seal(alloc, &store.indexes, index),
+        Event::Publish { index, shard, upto } => {
+            publish(&mut store.indexes, index, *shard, *upto)
+        }
+        Event::OpenPit { index, keep } => open_pit(alloc, store, moment, index, keep),
+        Event::Search { target, request } => {
+            search(alloc, &store.contexts, moment, target, request)
+        }
+        Event::Quiet => Ok(Reply::Done),
+    }
+}

@@ -1,0 +1,93 @@
+ghost use Rattle.std.specs.Prelude.{◌≡◌, ◌+◌, ◌<◌, ◌≤◌, ◌^◌, OnOk, IfOk, OnErr, nat_lt, vec_capacity, vec_len, if◌then◌else◌};
+ghost use Rattle.list_machine.specs.declared.event.Event.TheVariants.{Publish};
+ghost use Rattle.list_machine.specs.Rows.{apply, apply_all, last_number, publish, without};
+ghost use Rattle.list_machine.specs.Step.{happen};
+ghost use Rattle.list_machine.specs.Stores.{AreNumbered, Turns, indexes_seen, most_entries, shard_seen};
+
+use crate::Reply;
+use crate::store::{IndexStore, ShardStore, is_same_id, last_number, place_of};
+use es_types::{DocId, IndexName, NoMemory, Op, Row};
+use std::mem;
+
+/// Applies the operations up to a number. A number that no operation has yet changes nothing.
+pub fn publish(
+    indexes: &mut Vec<IndexStore>,
+    name: &IndexName,
+    shard: u32,
+    upto: u64,
+) -> Result<Reply, NoMemory>
+    requires { AreNumbered most_entries (indexes_seen indexes.old.items) }
+    ensures ok { IfOk result (Turns (λ state. happen state (Publish name.now shard upto)) indexes.old.items indexes.new.items) }
+    ensures err { OnErr result (indexes_seen indexes.new.items ≡ indexes_seen indexes.old.items) }
+{
+    // An index has no other shard.
+    if shard != 0 {
+        return Ok(Reply::Done);
+    }
+    let Some(at) = place_of(indexes, name) else {
+        return Ok(Reply::Done);
+    };
+    publish_shard(&mut indexes[at].shard, upto)?;
+    Ok(Reply::Done)
+}
+
+/// All room that is needed is made first, so that nothing has changed where there is none.
+fn publish_shard(shard: &mut ShardStore, upto: u64) -> Result<(), NoMemory>
+    requires { last_number (shard_seen shard.old) ≤ most_entries }
+    ensures ok { OnOk result (shard_seen shard.new ≡ (if nat_lt (last_number (shard_seen shard.old)) upto
+        then shard_seen shard.old else publish (shard_seen shard.old) upto)) }
+    ensures err { OnErr result (shard_seen shard.new ≡ shard_seen shard.old) }
+{
+    if last_number(shard) < upto || upto <= shard.base {
+        return Ok(());
+    }
+    let count = (upto - shard.base) as usize;
+    shard.rows.reserve(count)?;
+    let waiting = shard.pending.split_off(count)?;
+    let ops = mem::replace(&mut shard.pending, waiting);
+    apply_each(&mut shard.rows, shard.base, ops);
+    shard.base = upto;
+    Ok(())
+}
+
+fn apply_each(rows: &mut Vec<Row>, base: u64, ops: Vec<Op>)
+    requires numbers { base + vec_len ops < 2 ^ 64 }
+    requires room { vec_len rows.old + vec_len ops ≤ vec_capacity rows.old }
+    ensures { rows.new.items ≡ apply_all rows.old.items base ops.items }
+{
+    let mut number = base;
+    for op in ops {
+        number += 1;
+        apply(rows, number, op);
+    }
+}
+
+/// The operation's row takes over its id and its source.
+fn apply(rows: &mut Vec<Row>, number: u64, op: Op)
+    requires { vec_len rows.old < vec_capacity rows.old }
+    ensures items { rows.new.items ≡ apply rows.old.items number op }
+    ensures len { vec_len rows.new ≤ vec_len rows.old + 1 }
+    ensures capacity { vec_capacity rows.new ≡ vec_capacity rows.old }
+{
+    match op {
+        Op::Put { id, source, values } => {
+            remove(rows, &id);
+            rows.push_reserved(Row {
+                seq: number,
+                id,
+                source,
+                values,
+            });
+        }
+        Op::Remove { id } => remove(rows, &id),
+    }
+}
+
+/// Removes the row of that id.
+fn remove(rows: &mut Vec<Row>, id: &DocId)
+    ensures items { rows.new.items ≡ without id.now rows.old.items }
+    ensures len { vec_len rows.new ≤ vec_len rows.old }
+    ensures capacity { vec_capacity rows.new ≡ vec_capacity rows.old }
+{
+    rows.retain(|row| !is_same_id(&row.id, id));
+}

@@ -1,0 +1,77 @@
+ghost use Rattle.std.specs.Prelude.{◌≡◌, ◌<◌, ◌^◌, bytes_eq, max, position};
+ghost use Rattle.list_machine.specs.Rows.{last_number as last_number_of};
+ghost use Rattle.list_machine.specs.Stores.{shard_seen};
+
+use crate::Limits;
+use es_types::{DocId, IndexName, Moment, Op, Row};
+
+/// A shard: how many of its operations were applied, the rows that a search sees, and the operations that wait.
+#[derive(Drop)]
+pub struct ShardStore {
+    pub base: u64,
+    pub rows: Vec<Row>,
+    pub pending: Vec<Op>,
+}
+
+/// An index, which has one shard.
+#[derive(Drop)]
+pub struct IndexStore {
+    pub name: IndexName,
+    pub shard: ShardStore,
+}
+
+/// A point in time: the rows that it keeps, and the last moment at which it is live, in milliseconds.
+#[derive(Drop)]
+pub struct ContextStore {
+    pub number: u64,
+    pub index: IndexName,
+    pub rows: Vec<Row>,
+    pub expiry: u64,
+}
+
+/// The state of the machine in lists.
+#[derive(Drop)]
+pub struct Store {
+    pub limits: Limits,
+    pub moment: Moment,
+    /// The number that the next context gets.
+    pub next: u64,
+    pub indexes: Vec<IndexStore>,
+    pub contexts: Vec<ContextStore>,
+}
+
+pub fn is_same_id(a: &DocId, b: &DocId) -> bool
+    ensures { result ≡ bytes_eq a.now b.now }
+{
+    a.text().as_str() == b.text().as_str()
+}
+
+fn is_same_name(a: &IndexName, b: &IndexName) -> bool
+    ensures { result ≡ bytes_eq a.now b.now }
+{
+    a.text().as_str() == b.text().as_str()
+}
+
+/// The place of the index of that name.
+pub fn place_of(indexes: &[IndexStore], name: &IndexName) -> Option<usize>
+    ensures { result ≡ position (λ index. bytes_eq index.name name.now) indexes.now }
+{
+    indexes
+        .iter()
+        .position(|index| is_same_name(&index.name, name))
+}
+
+/// The number of the last operation.
+pub fn last_number(shard: &ShardStore) -> u64
+    requires { last_number_of (shard_seen shard.now) < 2 ^ 53 }
+    ensures { result ≡ last_number_of (shard_seen shard.now) }
+{
+    shard.base + shard.pending.len() as u64
+}
+
+/// The later one of two moments.
+pub fn later(a: Moment, b: Moment) -> Moment
+    ensures { result ≡ max a b }
+{
+    if a < b { b } else { a }
+}

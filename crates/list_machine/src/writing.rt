@@ -1,0 +1,117 @@
+ghost use Rattle.std.specs.Prelude.{◌≡◌, ◌≤◌, ℕ, IfOk, OnErr};
+ghost use Rattle.list_machine.specs.declared.event.Event.TheVariants.{Write};
+ghost use Rattle.list_machine.specs.Rows.{apply_all, has_id, last_number};
+ghost use Rattle.list_machine.specs.Step.{happen, op_of, wrote};
+ghost use Rattle.list_machine.specs.Stores.{AreNumbered, Turns, indexes_seen, most_entries, shard_seen, write_of};
+ghost use Rattle.list_machine.specs.Standing.{stands_after};
+
+use crate::store::{IndexStore, ShardStore, is_same_id, last_number, place_of};
+use crate::{Change, Reply, Wrote};
+use es_types::{Copied, DocId, IndexName, Items, NoMemory, Op, Row};
+use std::alloc::Global;
+
+/// As many rows and waiting operations as a shard may have.
+const SHARD_LIMIT: usize = 2147483647;
+
+/// Adds the operation of a write to the shard of the document.
+pub fn write(
+    alloc: Global,
+    indexes: &mut Vec<IndexStore>,
+    name: &IndexName,
+    id: &DocId,
+    change: &Change,
+) -> Result<Reply, NoMemory>
+    requires { AreNumbered most_entries (indexes_seen indexes.old.items) }
+    ensures ok { IfOk result (Turns (λ state. happen state (Write name.now id.now change.now)) indexes.old.items indexes.new.items) }
+    ensures err { OnErr result (indexes_seen indexes.new.items ≡ indexes_seen indexes.old.items) }
+{
+    let Some(at) = place_of(indexes, name) else {
+        return Ok(Reply::NoIndex);
+    };
+    write_shard(alloc, &mut indexes[at].shard, id, change)
+}
+
+fn write_shard(
+    alloc: Global,
+    shard: &mut ShardStore,
+    id: &DocId,
+    change: &Change,
+) -> Result<Reply, NoMemory>
+    requires { last_number (shard_seen shard.old) ≤ most_entries }
+    ensures ok { IfOk result (λ reply. write_of (shard_seen shard.old) id.now change.now ≡ (shard_seen shard.new, reply)) }
+    ensures err { OnErr result (shard_seen shard.new ≡ shard_seen shard.old) }
+{
+    if shard.rows.len() + shard.pending.len() >= SHARD_LIMIT {
+        return Ok(Reply::ShardFull);
+    }
+    let op = make_op(alloc, id, change)?;
+    let result = judge(change, will_stand(&shard.rows, &shard.pending, id));
+    let seq = last_number(shard) + 1;
+    shard.pending.push(op)?;
+    Ok(Reply::Wrote { result, seq })
+}
+
+/// The operation that a change of a document is.
+fn make_op(alloc: Global, id: &DocId, change: &Change) -> Result<Op, NoMemory>
+    ensures { IfOk result (λ op. op ≡ op_of id.now change.now) }
+{
+    match change {
+        Change::Put(doc) => {
+            Ok(Op::Put {
+                id: id.copy(alloc)?,
+                source: doc.source.copy(alloc)?,
+                values: Items::of(Vec::new(alloc)),
+            })
+        }
+        Change::Remove => {
+            Ok(Op::Remove {
+                id: id.copy(alloc)?,
+            })
+        }
+    }
+}
+
+/// What a change did, by whether the document was there.
+fn judge(change: &Change, was_there: bool) -> Wrote
+    ensures { result ≡ wrote change.now was_there }
+{
+    match change {
+        Change::Put(_) => if was_there {
+            Wrote::Updated
+        } else {
+            Wrote::Created
+        },
+        Change::Remove => if was_there {
+            Wrote::Deleted
+        } else {
+            Wrote::NotFound
+        },
+    }
+}
+
+/// Whether the id has a row once all operations are applied.
+fn will_stand(rows: &[Row], pending: &[Op], id: &DocId) -> bool
+    ensures { (base : ℕ) → result ≡ has_id id.now (apply_all rows.now base pending.now) }
+{
+    let mut stands = stands_in(rows, id);
+    for op in pending {
+        stands = stands_behind(op, id, stands);
+    }
+    stands
+}
+
+fn stands_in(rows: &[Row], id: &DocId) -> bool
+    ensures { result ≡ has_id id.now rows.now }
+{
+    rows.iter().any(|row| is_same_id(&row.id, id))
+}
+
+/// Whether the id has a row behind an operation, by whether it had one before.
+fn stands_behind(op: &Op, id: &DocId, stood: bool) -> bool
+    ensures { result ≡ stands_after op.now id.now stood }
+{
+    match op {
+        Op::Put { id: put, .. } => is_same_id(put, id) || stood,
+        Op::Remove { id: removed } => !is_same_id(removed, id) && stood,
+    }
+}
