@@ -5,3 +5,6 @@ pub mod Progress
 pub mod Talks
 pub mod Turns
 pub mod CommandWords
+pub mod Grown
+pub mod Alike
+pub mod Inputs

@@ -7,3 +7,4 @@ pub mod Headline
 pub mod Turns
 pub mod Solo
 pub mod Running
+pub mod Repeats

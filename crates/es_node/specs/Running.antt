@@ -2,6 +2,7 @@
 use Rattle.std.specs.Prelude.{◌≡◌, ◌⊎◌, ℕ, Bool, false, bytes_eq, List, [], ◌∷◌, Option, Some, codes}
 use Rattle.list_machine.specs.declared.event.Limits.{Limits}
 use Rattle.list_machine.specs.Run.{History}
+use Rattle.list_machine.specs.Serving.{IsKept}
 use Rattle.es_node.specs.declared.connection.ConnEnd.{ConnEnd}
 use Rattle.es_node.specs.declared.connection.ConnEnd.TheVariants as end
 use Rattle.es_node.specs.declared.run.Status.{Status}
@@ -37,10 +38,11 @@ end_status end.TooMuch = TooMuch
 abbrev pub limits : Limits
 limits = record { pits = 500; entries = 9007199254740992 }
 
--- One connection was served, from an empty history and by entries of its own seat alone.
+-- One connection was served, from an empty history and by entries of its own seat alone, which were not too many.
 pub record ServedOne (left after written now : Option (List ℕ)) (status : Status) : Type 0 where
   pub history : History
   pub own : AreOwn history
+  pub kept : IsKept limits history
   pub end : ConnEnd
   pub status_is : status ≡ end_status end
   pub greatest : ℕ

@@ -11,6 +11,7 @@ mod fault;
 mod found;
 mod frame;
 mod ids;
+mod laws;
 mod refused;
 mod reply;
 mod run;
@@ -22,8 +23,9 @@ use crate::adapter::{Input, Output};
 use crate::run::{Status, run};
 use es_types::Text;
 use std::alloc::Global;
+use std::env;
+use std::io::{self, ErrorKind};
 use std::process::ExitCode;
-use std::{env, io};
 
 /// The words of the command, without the program's name.
 fn words(rt: &HostRuntime, alloc: Global) -> io::Result<Vec<Text>> {
@@ -34,20 +36,29 @@ fn words(rt: &HostRuntime, alloc: Global) -> io::Result<Vec<Text>> {
     Ok(words)
 }
 
-fn main(rt: HostRuntime) -> io::Result<ExitCode> {
-    let alloc = rt.alloc();
-    let words = words(&rt, alloc)?;
+// Runs the command over standard input and output.
+fn run_words(rt: &HostRuntime, alloc: Global, words: &[Text]) -> Status {
     let mut input = Input {
         reader: rt.stdin(),
         faults: 0,
     };
     let mut output = Output {
-        writer: io::writer(&rt),
+        writer: io::writer(rt),
         faults: 0,
     };
-    let status = run(alloc, &words, &mut input, &mut output);
+    run(alloc, words, &mut input, &mut output)
+}
+
+fn main(rt: HostRuntime) -> io::Result<ExitCode> {
+    let alloc = rt.alloc();
+    let status = match words(&rt, alloc) {
+        Ok(words) => run_words(&rt, alloc, &words),
+        Err(error) if error.kind() == ErrorKind::OutOfMemory => Status::NoMemory,
+        // A word that is no UTF-8 is none of a command.
+        Err(_) => Status::Usage,
+    };
     if status == Status::Usage {
-        eprintln!(rt; "usage: es_node replay|serve|generate")?;
+        let _ = eprintln!(rt; "usage: es_node replay|serve|generate");
     }
     Ok(ExitCode::from(status.code()))
 }

@@ -1,5 +1,6 @@
 ghost use Rattle.std.specs.Prelude.{◌≡◌, ◌↔◌, true, false};
 ghost use Rattle.es_outside.specs.Told.{Rose};
+ghost use Rattle.es_node.specs.Repeats.{Completes};
 ghost use Rattle.es_node.specs.Running.{Replays, end_status, is_replay, status_code};
 
 use crate::connection::{ConnEnd, serve_connection};
@@ -107,6 +108,9 @@ pub fn run<S: Source, K: Sink>(
     ensures replays { is_replay words.now ≡ true → Replays (S.left source.old) (S.left source.new) (K.written sink.old) (K.written sink.new) result }
     ensures read_fault { result ≡ Status.ReadFault → Rose (S.read_faults source.old) (S.read_faults source.new) }
     ensures write_fault { result ≡ Status.WriteFault → Rose (K.write_faults sink.old) (K.write_faults sink.new) }
+    // An input of whole requests is answered wholly.
+    ensures complete { is_replay words.now ≡ true → Completes (S.left source.old) (S.left source.new) (K.written sink.old) (K.written sink.new)
+        (S.read_faults source.old) (S.read_faults source.new) (K.write_faults sink.old) (K.write_faults sink.new) result }
 {
     if is_replay(words) {
         replay(alloc, source, sink)

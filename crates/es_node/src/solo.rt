@@ -1,4 +1,5 @@
 ghost use Rattle.std.specs.Prelude.{◌≡◌, ◌+◌, ◌<◌, ◌≤◌, ◌^◌, ◌++◌, [], ◌∷◌, IfOk, OnErr};
+ghost use Rattle.list_machine.specs.Serving.{IsKept};
 ghost use Rattle.list_machine.specs.Step.{step};
 ghost use Rattle.es_node.specs.Solo.{AreOwn};
 
@@ -40,9 +41,10 @@ impl Solo {
         })
     }
 
-    /// Ends the service. All of its history was asked by its own seat.
+    /// Ends the service. All of its history was asked by its own seat, and is not too long.
     pub fn finish(self)
-        ensures { AreOwn self.history }
+        ensures own { AreOwn self.history }
+        ensures kept { IsKept self.limits self.history }
     {
         let Solo {
             limits: _,

@@ -1,0 +1,164 @@
+-- Whole inputs, and two runs over one input.
+use Rattle.std.proofs.Common.{◌≡◌, refl, sym, ap, ap₂, subst, ◌∙◌, inl, inr, ⊎_elim, ◌⊎◌, ℕ, ◌≤◌, List, [], ◌∷◌, ◌++◌, length, take, Option, Some, None, arith}
+use Rattle.std.specs.Prelude.{All}
+use Rattle.std.proofs.lemmas.List.{take_all}
+use Rattle.std.proofs.lemmas.List.Elements.{All-head, All-tail}
+use Rattle.es_outside.specs.Told.{Rose}
+use Rattle.http_wire.specs.declared.request.Request.{Request}
+use Rattle.http_wire.specs.Requests.{IsEnd, Spells, connection_limit}
+use Rattle.http_wire.proofs.OneHead.{ends_apart, spells_one}
+use Rattle.es_node.specs.declared.connection.ConnEnd.{ConnEnd}
+use Rattle.es_node.specs.declared.connection.ConnEnd.TheVariants as end
+use Rattle.es_node.specs.declared.run.Status.{Status}
+use Rattle.es_node.specs.declared.run.Status.TheVariants.{Done, ReadFault, WriteFault}
+use Rattle.es_node.specs.Headline.{Cuts, EndsWith, WroteWords, requests_of, texts_of, last_words}
+use Rattle.es_node.specs.Repeats.{Completes, EndsItself, NeverWants, moments_of}
+use Rattle.es_node.specs.Running.{Replays, ServedOne, end_status}
+use Rattle.es_node.specs.Talk.{Exchange}
+use Rattle.es_node.proofs.Alike.{no_first, others_same, same_responses}
+
+-- ---- a whole input
+
+-- the input was taken whole, so these are its requests
+same_requests : (bytes rest : List ℕ) (served requests : List Request) → length bytes ≤ connection_limit → Spells (take connection_limit bytes) served rest → IsEnd rest
+    → Spells bytes requests [] → (served ≡ requests) × (rest ≡ [])
+same_requests bytes rest served requests room cut ends spells =
+    spells_one bytes served requests rest [] (subst (λ (l : List ℕ). Spells l served rest) (take_all connection_limit bytes room) cut) ends spells (inl (inl refl))
+
+-- what an end says where nothing stands behind the requests
+which_end : (bytes : List ℕ) (served requests : List Request) (ended : ConnEnd) → Cuts bytes served ended → Spells bytes requests [] → length bytes ≤ connection_limit
+    → (ended ≡ end.ReadFault → ⊥) → (ended ≡ end.WriteFault → ⊥) → (ended ≡ end.NoMemory) ⊎ ((ended ≡ end.Done) × (served ≡ requests))
+which_end bytes served requests end.Done cuts spells room read write =
+    inr (refl, (same_requests bytes cuts.rest served requests room cuts.spells (inl (inl cuts.ends.1)) spells).0)
+which_end bytes served requests end.Truncated cuts spells room read write =
+    absurd (cuts.ends.1 (same_requests bytes cuts.rest served requests room cuts.spells (inl (inr cuts.ends.2)) spells).1)
+which_end bytes served requests end.Refused cuts spells room read write =
+    let none = (same_requests bytes cuts.rest served requests room cuts.spells (inr cuts.ends) spells).1 in
+    absurd (ends_apart cuts.rest (inl none) cuts.ends)
+which_end bytes served requests end.TooMuch cuts spells room read write = absurd (omega (arith, room, cuts.ends.0))
+which_end bytes served requests end.ReadFault cuts spells room read write = absurd (read refl)
+which_end bytes served requests end.WriteFault cuts spells room read write = absurd (write refl)
+which_end bytes served requests end.NoMemory cuts spells room read write = inl refl
+
+-- a run over a whole input
+completes_one : (bytes : List ℕ) (after written now : Option (List ℕ)) (reads reads_after writes writes_after : ℕ) (status : Status) → ServedOne (Some bytes) after written now status
+    → (status ≡ ReadFault → Rose reads reads_after) → (status ≡ WriteFault → Rose writes writes_after)
+    → Completes (Some bytes) after written now reads reads_after writes writes_after status
+completes_one bytes after written now reads reads_after writes writes_after status one read write requests spells room no_read no_write =
+    ⊎_elim
+    (λ wants. inl (one.status_is ∙ ap end_status wants))
+    (λ done.
+    let is : status ≡ Done = one.status_is ∙ ap end_status done.0 in
+    inr (
+      is,
+      record {
+        one = record {
+          history = one.history;
+          own = one.own;
+          kept = one.kept;
+          end = one.end;
+          status_is = sym is ∙ one.status_is;
+          greatest = one.greatest;
+          headline = one.headline;
+        };
+        all = done.1;
+      },
+    ))
+    (which_end bytes (requests_of one.headline.served) requests one.end one.headline.reads.0 spells room
+    (λ e. no_read (read (one.status_is ∙ ap end_status e)))
+    (λ e. no_write (write (one.status_is ∙ ap end_status e))))
+
+pub completes : (left after written now : Option (List ℕ)) (reads reads_after writes writes_after : ℕ) (status : Status) → Replays left after written now status
+    → (status ≡ ReadFault → Rose reads reads_after) → (status ≡ WriteFault → Rose writes writes_after)
+    → Completes left after written now reads reads_after writes writes_after status
+completes None after written now reads reads_after writes writes_after status replays read write = tt
+completes (Some bytes) after written now reads reads_after writes writes_after status replays read write =
+    λ requests spells room no_read no_write. ⊎_elim
+    (λ one. completes_one bytes after written now reads reads_after writes writes_after status one read write requests spells room no_read no_write)
+    (λ none. inl none.status_is)
+    replays
+
+-- ---- two runs over one input
+
+-- an end of its own accord has a cause in the bytes
+is_end : (bytes rest : List ℕ) (ended : ConnEnd) → EndsItself (end_status ended) → EndsWith bytes rest ended → IsEnd rest
+is_end bytes rest end.Done itself h = inl (inl h.1)
+is_end bytes rest end.Truncated itself h = inl (inr h.2)
+is_end bytes rest end.Refused itself h = inr h
+is_end bytes rest end.TooMuch itself h = inl h.1
+is_end bytes rest end.ReadFault itself h = absurd itself
+is_end bytes rest end.WriteFault itself h = absurd itself
+is_end bytes rest end.NoMemory itself h = absurd itself
+
+-- and one cause only
+one_end : (bytes rest : List ℕ) (a b : ConnEnd) → EndsItself (end_status a) → EndsItself (end_status b) → EndsWith bytes rest a → EndsWith bytes rest b → a ≡ b
+one_end bytes rest end.Done end.Done i j h k = refl
+one_end bytes rest end.Done end.Truncated i j h k = absurd (k.1 h.1)
+one_end bytes rest end.Done end.Refused i j h k = absurd (ends_apart rest (inl h.1) k)
+one_end bytes rest end.Done end.TooMuch i j h k = absurd (omega (arith, h.0, k.0))
+one_end bytes rest end.Truncated end.Done i j h k = absurd (h.1 k.1)
+one_end bytes rest end.Truncated end.Truncated i j h k = refl
+one_end bytes rest end.Truncated end.Refused i j h k = absurd (ends_apart rest (inr h.2) k)
+one_end bytes rest end.Truncated end.TooMuch i j h k = absurd (omega (arith, h.0, k.0))
+one_end bytes rest end.Refused end.Done i j h k = absurd (ends_apart rest (inl k.1) h)
+one_end bytes rest end.Refused end.Truncated i j h k = absurd (ends_apart rest (inr k.2) h)
+one_end bytes rest end.Refused end.Refused i j h k = refl
+one_end bytes rest end.Refused end.TooMuch i j h k = absurd (ends_apart rest k.1 h)
+one_end bytes rest end.TooMuch end.Done i j h k = absurd (omega (arith, k.0, h.0))
+one_end bytes rest end.TooMuch end.Truncated i j h k = absurd (omega (arith, k.0, h.0))
+one_end bytes rest end.TooMuch end.Refused i j h k = absurd (ends_apart rest h.1 k)
+one_end bytes rest end.TooMuch end.TooMuch i j h k = refl
+one_end bytes rest end.ReadFault b i j h k = absurd i
+one_end bytes rest end.WriteFault b i j h k = absurd i
+one_end bytes rest end.NoMemory b i j h k = absurd i
+one_end bytes rest a end.ReadFault i j h k = absurd j
+one_end bytes rest a end.WriteFault i j h k = absurd j
+one_end bytes rest a end.NoMemory i j h k = absurd j
+
+abbrev AtZero : Exchange → Type 0
+AtZero x = x.moment ≡ 0
+
+-- the clock stands still, so as many requests have the same moments
+same_moments : (served others : List Exchange) → All AtZero served → All AtZero others → requests_of served ≡ requests_of others → moments_of served ≡ moments_of others
+same_moments [] [] h k e = refl
+same_moments [] (y ∷ others) h k e = absurd (no_first _ _ (sym e))
+same_moments (x ∷ served) [] h k e = absurd (no_first _ _ e)
+same_moments (x ∷ served) (y ∷ others) h k e =
+    ap₂ (λ (m : ℕ) (l : List ℕ). m ∷ l) (All-head AtZero x served h ∙ sym (All-head AtZero y others k))
+    (same_moments served others (All-tail AtZero x served h) (All-tail AtZero y others k)
+    (others_same x.request y.request (requests_of served) (requests_of others) e))
+
+-- what was written, where nothing failed
+wrote_all : (written : List ℕ) (after : Option (List ℕ)) (texts : List ℕ) (ended : ConnEnd) → EndsItself (end_status ended) → WroteWords written after texts ended → after ≡ Some (written ++ (texts ++ last_words ended))
+wrote_all written after texts end.Done itself h = h
+wrote_all written after texts end.Truncated itself h = h
+wrote_all written after texts end.Refused itself h = h
+wrote_all written after texts end.TooMuch itself h = h
+wrote_all written after texts end.ReadFault itself h = absurd itself
+wrote_all written after texts end.WriteFault itself h = absurd itself
+wrote_all written after texts end.NoMemory itself h = absurd itself
+
+pub same_bytes : (bytes written : List ℕ) (left after now later : Option (List ℕ)) (status ended : Status)
+    (one : ServedOne (Some bytes) left (Some written) now status) (other : ServedOne (Some bytes) after (Some written) later ended)
+    → NeverWants one.headline.served → NeverWants other.headline.served → EndsItself status → EndsItself ended
+    → (now ≡ later) × (status ≡ ended)
+same_bytes bytes written left after now later status ended one other ample enough itself too =
+    let i : EndsItself (end_status one.end) = subst EndsItself one.status_is itself in
+    let j : EndsItself (end_status other.end) = subst EndsItself other.status_is too in
+    let h = one.headline.reads.0 in
+    let k = other.headline.reads.0 in
+    let served = one.headline.served in
+    let others = other.headline.served in
+    let cut = spells_one (take connection_limit bytes) (requests_of served) (requests_of others) h.rest k.rest
+    h.spells (is_end bytes h.rest one.end i h.ends) k.spells (is_end bytes k.rest other.end j k.ends) in
+    let end_is : one.end ≡ other.end = one_end bytes k.rest one.end other.end i j
+    (subst (λ (l : List ℕ). EndsWith bytes l one.end) cut.1 h.ends) k.ends in
+    let moments = same_moments served others one.headline.moments.told other.headline.moments.told cut.0 in
+    let same = (same_responses _ one.history other.history served others
+    (record { kept = one.kept; own = one.own; serves = one.headline.serves; ample = ample })
+    (record { kept = other.kept; own = other.own; serves = other.headline.serves; ample = enough }) cut.0 moments).1 in (
+      wrote_all written now (texts_of served) one.end i one.headline.writes
+          ∙ ap₂ (λ (l : List Exchange) (e : ConnEnd). Some (written ++ (texts_of l ++ last_words e))) same end_is
+          ∙ sym (wrote_all written later (texts_of others) other.end j other.headline.writes),
+      one.status_is ∙ ap end_status end_is ∙ sym other.status_is,
+    )

@@ -1,0 +1,55 @@
+-- What is said of a whole input, and of two runs over one input.
+use Rattle.std.specs.Prelude.{◌≡◌, ◌≢◌, ◌⊎◌, ℕ, ◌≤◌, List, [], length, map, Option, Some, None, All}
+use Rattle.es_outside.specs.Told.{Rose}
+use Rattle.http_wire.specs.declared.request.Request.{Request}
+use Rattle.http_wire.specs.Requests.{Spells, connection_limit}
+use Rattle.list_machine.specs.declared.event.Limits.{Limits}
+use Rattle.list_machine.specs.Run.{History}
+use Rattle.list_machine.specs.Serving.{IsKept}
+use Rattle.es_node.specs.declared.run.Status.{Status}
+use Rattle.es_node.specs.declared.run.Status.TheVariants.{Done, Refused, NoMemory, Truncated, TooMuch}
+use Rattle.es_node.specs.declared.reply.Response.TheVariants.{Fault}
+use Rattle.es_node.specs.declared.fault.RestFault.TheVariants as fault
+use Rattle.es_node.specs.Talk.{Exchange, Serves}
+use Rattle.es_node.specs.Headline.{requests_of}
+use Rattle.es_node.specs.Solo.{AreOwn}
+use Rattle.es_node.specs.Running.{ServedOne}
+
+-- ---- a whole input
+
+-- all of these requests were answered
+pub record AnswersAll (requests : List Request) (left after written now : Option (List ℕ)) : Type 0 where
+  pub one : ServedOne left after written now Done
+  pub all : requests_of one.headline.served ≡ requests
+
+-- Where the input is these requests and no more, and no fault was counted, all are answered, or memory was wanted.
+abbrev pub Completes : Option (List ℕ) → Option (List ℕ) → Option (List ℕ) → Option (List ℕ) → ℕ → ℕ → ℕ → ℕ → Status → Type 0
+Completes None after written now reads reads_after writes writes_after status = Unit {0}
+Completes (Some bytes) after written now reads reads_after writes writes_after status =
+    (requests : List Request) → Spells bytes requests [] → length bytes ≤ connection_limit
+    → (Rose reads reads_after → ⊥) → (Rose writes writes_after → ⊥)
+    → (status ≡ NoMemory) ⊎ ((status ≡ Done) × AnswersAll requests (Some bytes) after written now)
+
+-- ---- two runs
+
+abbrev pub moments_of : List Exchange → List ℕ
+moments_of served = map (λ (x : Exchange). x.moment) served
+
+-- no response is the one that memory is wanting
+abbrev pub NeverWants : List Exchange → Type 0
+NeverWants served = All (λ (x : Exchange). x.response ≢ Fault fault.NoMemory) served
+
+-- these requests were served from an empty history with ample memory, by entries of seat 0 alone
+pub record ServesAlone (limits : Limits) (history : History) (served : List Exchange) : Type 0 where
+  pub kept : IsKept limits history
+  pub own : AreOwn history
+  pub serves : Serves limits 0 0 [] history served
+  pub ample : NeverWants served
+
+-- the run ended neither by a fault nor by want of memory
+abbrev pub EndsItself : Status → Type 0
+EndsItself Done = Unit {0}
+EndsItself Refused = Unit {0}
+EndsItself Truncated = Unit {0}
+EndsItself TooMuch = Unit {0}
+EndsItself status = ⊥
