@@ -115,14 +115,14 @@ served_grew limits newest old new x ample h =
     (grew_on h.answered h.helped new (beside_grew 0 4 x.moment h.answered h.helped h.helps)
     (beside_grew 0 (4 + 2 * applied (state_of limits h.helped)) x.moment h.helped new h.tidies))
 
-abbrev Wanted : Exchange → Type 0
-Wanted x = x.response ≢ Fault fault.NoMemory
+abbrev HadMemory : Exchange → Type 0
+HadMemory x = x.response ≢ Fault fault.NoMemory
 
 serves_grew : (limits : Limits) (newest : ℕ) (old new : History) (served : List Exchange) → NeverWants served → Serves limits 0 newest old new served → Grew old new
 serves_grew limits newest old new [] ample same = grew_not old new same
 serves_grew limits newest old new (x ∷ served) ample h =
-    grew_on old h.0 new (served_grew limits newest old h.0 x (All-head Wanted x served ample) h.1)
-    (serves_grew limits (newest_after newest x.response) h.0 new served (All-tail Wanted x served ample) h.2)
+    grew_on old h.0 new (served_grew limits newest old h.0 x (All-head HadMemory x served ample) h.1)
+    (serves_grew limits (newest_after newest x.response) h.0 new served (All-tail HadMemory x served ample) h.2)
 
 exchange_same : (x y : Exchange) → x.request ≡ y.request → x.moment ≡ y.moment → x.response ≡ y.response → x ≡ y
 exchange_same x y a b c =
@@ -130,7 +130,7 @@ exchange_same x y a b c =
     ∙ ap (λ (m : ℕ). let e : Exchange = record { request = y.request; moment = m; response = x.response } in e) b
     ∙ ap (λ (r : Response). let e : Exchange = record { request = y.request; moment = y.moment; response = r } in e) c
 
-served_alike : (limits : Limits) (newest : ℕ) (old new other : History) (x y : Exchange) → x.request ≡ y.request → x.moment ≡ y.moment → Wanted x → Wanted y
+served_alike : (limits : Limits) (newest : ℕ) (old new other : History) (x y : Exchange) → x.request ≡ y.request → x.moment ≡ y.moment → HadMemory x → HadMemory y
     → Fits limits new → Fits limits other → Served limits 0 newest old new x → Served limits 0 newest old other y → (new ≡ other) × (x ≡ y)
 served_alike limits newest old new other x y request moment ample enough fits fit h k =
     let tidied : new ≡ h.helped = beside_same limits _ x.moment h.helped new fits h.tidies in
@@ -164,12 +164,12 @@ serves_alike limits newest old new other [] [] ample enough fits fit h k request
 serves_alike limits newest old new other [] (y ∷ others) ample enough fits fit h k requests moments = absurd (no_first _ _ (sym requests))
 serves_alike limits newest old new other (x ∷ served) [] ample enough fits fit h k requests moments = absurd (no_first _ _ requests)
 serves_alike limits newest old new other (x ∷ served) (y ∷ others) ample enough fits fit h k requests moments =
-    let rich = All-tail Wanted x served ample in
-    let richer = All-tail Wanted y others enough in
+    let rich = All-tail HadMemory x served ample in
+    let richer = All-tail HadMemory y others enough in
     let first = served_alike limits newest old h.0 k.0 x y
     (first_same x.request y.request (requests_of served) (requests_of others) requests)
     (first_same x.moment y.moment (moments_of served) (moments_of others) moments)
-    (All-head Wanted x served ample) (All-head Wanted y others enough)
+    (All-head HadMemory x served ample) (All-head HadMemory y others enough)
     (fits_before limits h.0 new (serves_grew limits (newest_after newest x.response) h.0 new served rich h.2) fits)
     (fits_before limits k.0 other (serves_grew limits (newest_after newest y.response) k.0 other others richer k.2) fit) h.1 k.1 in
     let rest : Serves limits 0 (newest_after newest x.response) h.0 other others

@@ -11,8 +11,10 @@ use Rattle.es_node.specs.declared.connection.ConnEnd.{ConnEnd}
 use Rattle.es_node.specs.declared.connection.ConnEnd.TheVariants as end
 use Rattle.es_node.specs.declared.run.Status.{Status}
 use Rattle.es_node.specs.declared.run.Status.TheVariants.{Done, ReadFault, WriteFault}
-use Rattle.es_node.specs.Headline.{Cuts, EndsWith, WroteWords, requests_of, texts_of, last_words}
-use Rattle.es_node.specs.Repeats.{Completes, EndsItself, NeverWants, moments_of}
+use Rattle.es_node.specs.Headline.{Cuts, EndsWith, Headline, WroteWords, requests_of, texts_of, last_words}
+use Rattle.es_node.specs.Repeats.{Completes, EndsItself, NeverWants, ServesWhole, moments_of}
+use Rattle.list_machine.specs.declared.event.Limits.{Limits}
+use Rattle.list_machine.specs.Run.{History}
 use Rattle.es_node.specs.Running.{Replays, ServedOne, end_status}
 use Rattle.es_node.specs.Talk.{Exchange}
 use Rattle.es_node.proofs.Alike.{no_first, others_same, same_responses}
@@ -39,6 +41,20 @@ which_end bytes served requests end.TooMuch cuts spells room read write = absurd
 which_end bytes served requests end.ReadFault cuts spells room read write = absurd (read refl)
 which_end bytes served requests end.WriteFault cuts spells room read write = absurd (write refl)
 which_end bytes served requests end.NoMemory cuts spells room read write = inl refl
+
+-- a connection whose input is whole requests
+pub serves_whole : (limits : Limits) (seat : ℕ) (old new : History) (left after written now : Option (List ℕ)) (last : Option ℕ) (greatest reads reads_after writes writes_after : ℕ) (ended : ConnEnd) → Headline limits seat old new left after written now last greatest ended
+    → (ended ≡ end.ReadFault → Rose reads reads_after) → (ended ≡ end.WriteFault → Rose writes writes_after)
+    → ServesWhole limits seat old new left after written now last greatest reads reads_after writes writes_after ended
+serves_whole limits seat old new None after written now last greatest reads reads_after writes writes_after ended h read write = tt
+serves_whole limits seat old new (Some bytes) after written now last greatest reads reads_after writes writes_after ended h read write =
+    λ requests spells room no_read no_write. ⊎_elim
+    (λ wants. inl wants)
+    (λ done.
+    let P : ConnEnd → Type 0 = λ e. (k : Headline limits seat old new (Some bytes) after written now last greatest e) × (requests_of k.served ≡ requests) in
+    let all = subst P done.0 (h, done.1) in
+    inr (done.0, record { headline = all.0; all = all.1 }))
+    (which_end bytes (requests_of h.served) requests ended h.reads.0 spells room (λ e. no_read (read e)) (λ e. no_write (write e)))
 
 -- a run over a whole input
 completes_one : (bytes : List ℕ) (after written now : Option (List ℕ)) (reads reads_after writes writes_after : ℕ) (status : Status) → ServedOne (Some bytes) after written now status
@@ -129,14 +145,14 @@ same_moments (x ∷ served) (y ∷ others) h k e =
     (others_same x.request y.request (requests_of served) (requests_of others) e))
 
 -- what was written, where nothing failed
-wrote_all : (written : List ℕ) (after : Option (List ℕ)) (texts : List ℕ) (ended : ConnEnd) → EndsItself (end_status ended) → WroteWords written after texts ended → after ≡ Some (written ++ (texts ++ last_words ended))
-wrote_all written after texts end.Done itself h = h
-wrote_all written after texts end.Truncated itself h = h
-wrote_all written after texts end.Refused itself h = h
-wrote_all written after texts end.TooMuch itself h = h
-wrote_all written after texts end.ReadFault itself h = absurd itself
-wrote_all written after texts end.WriteFault itself h = absurd itself
-wrote_all written after texts end.NoMemory itself h = absurd itself
+wrote_all : (left rest : Option (List ℕ)) (written : List ℕ) (after : Option (List ℕ)) (served : List Exchange) (ended : ConnEnd) → EndsItself (end_status ended) → WroteWords left rest written after served ended → after ≡ Some (written ++ (texts_of served ++ last_words ended))
+wrote_all left rest written after served end.Done itself h = h
+wrote_all left rest written after served end.Truncated itself h = h
+wrote_all left rest written after served end.Refused itself h = h
+wrote_all left rest written after served end.TooMuch itself h = h
+wrote_all left rest written after served end.ReadFault itself h = absurd itself
+wrote_all left rest written after served end.WriteFault itself h = absurd itself
+wrote_all left rest written after served end.NoMemory itself h = absurd itself
 
 pub same_bytes : (bytes written : List ℕ) (left after now later : Option (List ℕ)) (status ended : Status)
     (one : ServedOne (Some bytes) left (Some written) now status) (other : ServedOne (Some bytes) after (Some written) later ended)
@@ -157,8 +173,8 @@ same_bytes bytes written left after now later status ended one other ample enoug
     let same = (same_responses _ one.history other.history served others
     (record { kept = one.kept; own = one.own; serves = one.headline.serves; ample = ample })
     (record { kept = other.kept; own = other.own; serves = other.headline.serves; ample = enough }) cut.0 moments).1 in (
-      wrote_all written now (texts_of served) one.end i one.headline.writes
+      wrote_all _ _ written now served one.end i one.headline.writes
           ∙ ap₂ (λ (l : List Exchange) (e : ConnEnd). Some (written ++ (texts_of l ++ last_words e))) same end_is
-          ∙ sym (wrote_all written later (texts_of others) other.end j other.headline.writes),
+          ∙ sym (wrote_all _ _ written later others other.end j other.headline.writes),
       one.status_is ∙ ap end_status end_is ∙ sym other.status_is,
     )

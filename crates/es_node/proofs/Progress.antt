@@ -1,6 +1,5 @@
 -- How far a connection has come, and that it comes to the headline.
-use Rattle.std.proofs.Common.{◌≡◌, refl, sym, ap, subst, ◌∙◌, ⊎_elim, ℕ, ◌+◌, ◌≤◌, max, List, [], ◌∷◌, ◌++◌, length, take, Option, Some, None, Result, Ok, Err, arith, append_assoc, length-append, take_all, true, false}
-use Rattle.std.specs.Prelude.{is_err}
+use Rattle.std.proofs.Common.{◌≡◌, refl, sym, ap, subst, ◌∙◌, inl, inr, ⊎_elim, ℕ, ◌+◌, ◌<◌, ◌≤◌, max, List, [], ◌∷◌, ◌++◌, length, take, Option, Some, None, Result, Ok, Err, arith, append_assoc, length-append, take_all}
 use Rattle.std.specs.Prelude.{All}
 use Rattle.std.proofs.lemmas.List.{append-nil}
 use Rattle.std.proofs.lemmas.List.Elements.{All-nil, All-cons, All-append, All-head, All-tail, All-weaker}
@@ -18,8 +17,8 @@ use Rattle.es_node.specs.declared.connection.ConnEnd.TheVariants as end
 use Rattle.es_node.specs.declared.connection.Session.{Session}
 use Rattle.es_node.specs.Replies.{text}
 use Rattle.es_node.specs.Talk.{Exchange, Served, Serves, newest_after}
-use Rattle.es_node.specs.Headline.{requests_of, texts_of, EndsWith, Cuts, TookAll, AtReadFault, ReadsFrom, last_words, WroteWords, WritesTo, NeverFalls, AtLast, AreMoments, Headline}
-use Rattle.es_node.proofs.Turns.{wrote_none}
+use Rattle.es_node.specs.Headline.{requests_of, texts_of, EndsWith, Cuts, TookAll, AtReadFault, ReadsFrom, last_words, IsCut, WroteWords, WritesTo, NeverFalls, AtLast, AreMoments, Headline}
+use Rattle.es_node.proofs.Turns.{exchanged_as, wrote_none}
 use Rattle.es_node.specs.Turns.{Aims, Closed, Exchanged, LastGoesOn}
 
 -- the newest point in time that these responses told of
@@ -233,45 +232,39 @@ never_a_fault wire.ReadFault h = h
 never_a_fault wire.TooMuch h = h
 never_a_fault wire.NoMemory h = h
 
-words_at : (written : List ℕ) (after : Option (List ℕ)) (texts : List ℕ) (aim : ConnEnd) → (aim ≡ end.WriteFault → ⊥) → after ≡ Some (written ++ (texts ++ last_words aim)) → WroteWords written after texts aim
-words_at written after texts end.Done fault h = h
-words_at written after texts end.Refused fault h = h
-words_at written after texts end.ReadFault fault h = h
-words_at written after texts end.WriteFault fault h = absurd (fault refl)
-words_at written after texts end.NoMemory fault h = h
-words_at written after texts end.Truncated fault h = h
-words_at written after texts end.TooMuch fault h = h
+words_at : (left rest : Option (List ℕ)) (written : List ℕ) (after : Option (List ℕ)) (served : List Exchange) (aim : ConnEnd) → (aim ≡ end.WriteFault → ⊥) → after ≡ Some (written ++ (texts_of served ++ last_words aim)) → WroteWords left rest written after served aim
+words_at left rest written after served end.Done fault h = h
+words_at left rest written after served end.Refused fault h = h
+words_at left rest written after served end.ReadFault fault h = h
+words_at left rest written after served end.WriteFault fault h = absurd (fault refl)
+words_at left rest written after served end.NoMemory fault h = h
+words_at left rest written after served end.Truncated fault h = h
+words_at left rest written after served end.TooMuch fault h = h
 
-writes_end : (first now after : Option (List ℕ)) (served : List Exchange) (aim : ConnEnd) → (aim ≡ end.WriteFault → ⊥) → WroteSoFar first now served → Wrote now after (last_words aim) → WritesTo first after served aim
-writes_end None now after served aim fault so wrote = tt
-writes_end (Some written) now after served aim fault so wrote =
+writes_end : (left rest first now after : Option (List ℕ)) (served : List Exchange) (aim : ConnEnd) → (aim ≡ end.WriteFault → ⊥) → WroteSoFar first now served → Wrote now after (last_words aim) → WritesTo left rest first after served aim
+writes_end left rest None now after served aim fault so wrote = tt
+writes_end left rest (Some written) now after served aim fault so wrote =
     let P : Option (List ℕ) → Type 0 = λ o. Wrote o after (last_words aim) in
-    words_at written after (texts_of served) aim fault (subst P so wrote ∙ ap Some (append_assoc written (texts_of served) (last_words aim)))
+    words_at left rest written after served aim fault (subst P so wrote ∙ ap Some (append_assoc written (texts_of served) (last_words aim)))
 
-some_words : (written texts words : List ℕ) (count : ℕ) (after : Option (List ℕ)) → after ≡ Some ((written ++ texts) ++ take count words) → after ≡ Some (written ++ take (length texts + count) (texts ++ words))
-some_words written texts words count after h =
-    h ∙ ap Some (append_assoc written texts (take count words) ∙ ap (λ (l : List ℕ). written ++ l) (sym (take-append-add texts words count)))
+-- words behind the texts were cut
+cut_words : (written : List ℕ) (now after : Option (List ℕ)) (texts words : List ℕ) → now ≡ Some (written ++ texts) → WroteSome now after words → IsCut written after texts words
+cut_words written now after texts words so wrote =
+    let P : Option (List ℕ) → Type 0 = λ o. WroteSome o after words in
+    let some : (count : ℕ) × (count < length words) × (after ≡ Some ((written ++ texts) ++ take count words)) = subst P so wrote in
+    record { count = some.0; short = some.1; is = some.2 ∙ ap Some (append_assoc written texts (take some.0 words)) }
 
 -- the last words failed
-writes_fault : (first now after : Option (List ℕ)) (served : List Exchange) (aim : ConnEnd) → WroteSoFar first now served → WroteSome now after (last_words aim) → WritesTo first after served end.WriteFault
-writes_fault None now after served aim so wrote = tt
-writes_fault (Some written) now after served aim so wrote =
-    let P : Option (List ℕ) → Type 0 = λ o. WroteSome o after (last_words aim) in
-    let some : (count : ℕ) × (count ≤ length (last_words aim)) × (after ≡ Some ((written ++ texts_of served) ++ take count (last_words aim))) = subst P so wrote in
-    (aim, length (texts_of served) + some.0, some_words written (texts_of served) (last_words aim) some.0 after some.2)
+writes_fault : (left rest first now after : Option (List ℕ)) (served : List Exchange) (aim : ConnEnd) → ReadsFrom left rest (requests_of served) aim → WroteSoFar first now served → WroteSome now after (last_words aim) → WritesTo left rest first after served end.WriteFault
+writes_fault left rest None now after served aim reads so wrote = tt
+writes_fault left rest (Some written) now after served aim reads so wrote =
+    inr (record { aim = aim; reads = reads; cut = cut_words written now after (texts_of served) (last_words aim) so wrote })
 
 -- the text of a response failed
-writes_cut : (first now after : Option (List ℕ)) (served : List Exchange) (x : Exchange) → WroteSoFar first now served → WroteSome now after (text x.response x.request.last) → WritesTo first after (served ++ x ∷ []) end.WriteFault
-writes_cut None now after served x so wrote = tt
-writes_cut (Some written) now after served x so wrote =
-    let words = text x.response x.request.last in
-    let P : Option (List ℕ) → Type 0 = λ o. WroteSome o after words in
-    let some : (count : ℕ) × (count ≤ length words) × (after ≡ Some ((written ++ texts_of served) ++ take count words)) = subst P so wrote in
-    let all : texts_of served ++ words ≡ texts_of (served ++ x ∷ []) ++ [] = sym (append-nil (texts_of (served ++ x ∷ [])) ∙ texts_more served x) in (
-      end.Done,
-      length (texts_of served) + some.0,
-      some_words written (texts_of served) words some.0 after some.2 ∙ ap (λ (l : List ℕ). Some (written ++ take (length (texts_of served) + some.0) l)) all,
-    )
+writes_cut : (left rest first now after : Option (List ℕ)) (served : List Exchange) (x : Exchange) → WroteSoFar first now served → WroteSome now after (text x.response x.request.last) → WritesTo left rest first after (served ++ x ∷ []) end.WriteFault
+writes_cut left rest None now after served x so wrote = tt
+writes_cut left rest (Some written) now after served x so wrote =
+    inl (record { first = served; last = x; served_are = refl; cut = cut_words written now after (texts_of served) (text x.response x.request.last) so wrote })
 
 wrote_on : (first now after : Option (List ℕ)) (served : List Exchange) (x : Exchange) → WroteSoFar first now served → Wrote now after (text x.response x.request.last) → WroteSoFar first after (served ++ x ∷ [])
 wrote_on None now after served x so wrote = tt
@@ -345,74 +338,93 @@ starts limits seat first left written last greatest session held newest moment e
       wrote = wrote_nothing written;
     }
 
-pub goes_on : (limits : Limits) (seat : ℕ) (first front after : History) (left now then written was is : Option (List ℕ)) (last told tells : Option ℕ) (greatest great : ℕ) (old new : Session) (held holds : Held) (request : Request) {E : Type 0} (result : Result (Unit {0}) E)
-    → Progress limits seat first front left now written was last told greatest old held
-    → NextOf held holds now then (Ok (Some request)) → Exchanged limits seat old new front after request was is result → is_err result ≡ false
+-- one request more was read, and its response written
+pub goes_on : {limits other : Limits} {seat others : ℕ} {first front after : History} {left now written before was is : Option (List ℕ)} {last told : Option ℕ} {greatest : ℕ} {old new : Session} {held : Held} {request : Request} {E : Type 0} {done : Unit {0}}
+    (mid then : Option (List ℕ)) (tells : Option ℕ) (great : ℕ) (holds : Held)
+    → Progress limits seat first front left now written before last told greatest old held
+    → was ≡ before → NextOf held holds now mid (Ok (Some request)) → then ≡ mid → other ≡ limits → others ≡ seat
+    → Exchanged other others old new front after request was is {E = E} (Ok done)
     → old.moment ≤ new.moment → new.moment ≤ max old.moment great → greatest ≤ great → LastGoesOn told tells old.moment new.moment
     → Progress limits seat first after left then written is last tells great new holds
-goes_on limits seat first front after left now then written was is last told tells greatest great old new held holds request (Err e) p next e' fine later bounded greater goes = absurd (cc)
-goes_on limits seat first front after left now then written was is last told tells greatest great old new held holds request (Ok u) p next ex fine later bounded greater goes =
+goes_on {limits} {other} {seat} {others} {first} {front} {after} {left} {now} {written} {before} {was} {is} {last} {told} {greatest} {old} {new} {held} {request} {E} {done} mid then tells great holds p same next rest l s exchanged later bounded greater goes =
+    let ex : Exchanged limits seat old new front after request was is {E = E} (Ok done) = exchanged_as l s old new front after request was is (Ok done) exchanged in
+    let read : NextOf held holds now then (Ok (Some request)) = subst (λ (o : Option (List ℕ)). NextOf held holds now o (Ok (Some request))) (sym rest) next in
+    let wrote : WroteSoFar written was p.served = subst (λ (o : Option (List ℕ)). WroteSoFar written o p.served) (sym same) p.wrote in
     record {
       served = p.served ++ ex.x ∷ [];
-      moved = moved_by limits seat first front after left now then was is last told tells greatest great old new held holds request (Ok u) p.served p.moved next ex later bounded greater goes;
-      wrote = wrote_on written was is p.served ex.x p.wrote (subst (λ (r : Request). Wrote was is (text ex.x.response r.last)) (sym ex.request_is) ex.wrote);
+      moved = moved_by limits seat first front after left now then was is last told tells greatest great old new held holds request (Ok done) p.served p.moved read ex later bounded greater goes;
+      wrote = wrote_on written was is p.served ex.x wrote (subst (λ (r : Request). Wrote was is (text ex.x.response r.last)) (sym ex.request_is) ex.wrote);
     }
 
-pub failed : (limits : Limits) (seat : ℕ) (first front after : History) (left now then written was is : Option (List ℕ)) (last told tells : Option ℕ) (greatest great : ℕ) (old new : Session) (held holds : Held) (request : Request) {E : Type 0} (result : Result (Unit {0}) E)
-    → Progress limits seat first front left now written was last told greatest old held
-    → NextOf held holds now then (Ok (Some request)) → Exchanged limits seat old new front after request was is result → is_err result ≡ true
+-- one request more was read, and the write of its response failed
+pub failed : {limits other : Limits} {seat others : ℕ} {first front after : History} {left now written before was is : Option (List ℕ)} {last told : Option ℕ} {greatest : ℕ} {old new : Session} {held : Held} {request : Request} {E : Type 0} {e : E}
+    (mid then : Option (List ℕ)) (tells : Option ℕ) (great : ℕ) (holds : Held)
+    → Progress limits seat first front left now written before last told greatest old held
+    → was ≡ before → NextOf held holds now mid (Ok (Some request)) → then ≡ mid → other ≡ limits → others ≡ seat
+    → Exchanged other others old new front after request was is (Err e)
     → old.moment ≤ new.moment → new.moment ≤ max old.moment great → greatest ≤ great → LastGoesOn told tells old.moment new.moment
     → Enumerates limits after
     → Headline limits seat first after left then written is last great end.WriteFault
-failed limits seat first front after left now then written was is last told tells greatest great old new held holds request (Ok u) p next ex bad later bounded greater goes law = absurd (cc)
-failed limits seat first front after left now then written was is last told tells greatest great old new held holds request (Err e) p next ex bad later bounded greater goes law =
-    let m = moved_by limits seat first front after left now then was is last told tells greatest great old new held holds request (Err e) p.served p.moved next ex later bounded greater goes in
+failed {limits} {other} {seat} {others} {first} {front} {after} {left} {now} {written} {before} {was} {is} {last} {told} {greatest} {old} {new} {held} {request} {E} {e} mid then tells great holds p same next rest l s exchanged later bounded greater goes law =
+    let ex : Exchanged limits seat old new front after request was is (Err e) = exchanged_as l s old new front after request was is (Err e) exchanged in
+    let read : NextOf held holds now then (Ok (Some request)) = subst (λ (o : Option (List ℕ)). NextOf held holds now o (Ok (Some request))) (sym rest) next in
+    let wrote : WroteSoFar written was p.served = subst (λ (o : Option (List ℕ)). WroteSoFar written o p.served) (sym same) p.wrote in
+    let m = moved_by limits seat first front after left now then was is last told tells greatest great old new held holds request (Err e) p.served p.moved read ex later bounded greater goes in
     record {
       served = p.served ++ ex.x ∷ [];
       serves = m.serves;
       enumerates = law;
       reads = reads_fault left then then holds (requests_of (p.served ++ ex.x ∷ [])) m.read;
-      writes = writes_cut written was is p.served ex.x p.wrote (subst (λ (r : Request). WroteSome was is (text ex.x.response r.last)) (sym ex.request_is) ex.wrote);
+      writes = writes_cut left then written was is p.served ex.x wrote (subst (λ (r : Request). WroteSome was is (text ex.x.response r.last)) (sym ex.request_is) ex.wrote);
       moments = moments_of limits seat first after left then last tells great new holds (p.served ++ ex.x ∷ []) m;
     }
 
-pub ended : (limits : Limits) (seat : ℕ) (first front : History) (left now then written was : Option (List ℕ)) (last told : Option ℕ) (greatest : ℕ) (session : Session) (held new : Held)
-    → Progress limits seat first front left now written was last told greatest session held → NextOf held new now then (Ok None) → Enumerates limits front
+-- the input ended between two requests
+pub ended : {limits : Limits} {seat : ℕ} {first front : History} {left now written before was : Option (List ℕ)} {last told : Option ℕ} {greatest : ℕ} {session : Session} {held : Held}
+    (then : Option (List ℕ)) (new : Held)
+    → Progress limits seat first front left now written before last told greatest session held
+    → was ≡ before → NextOf held new now then (Ok None) → Enumerates limits front
     → Headline limits seat first front left then written was last greatest end.Done
-ended limits seat first front left now then written was last told greatest session held new p next law =
+ended {limits} {seat} {first} {front} {left} {now} {written} {before} {was} {last} {told} {greatest} {session} {held} then new p same next law =
+    let wrote : WroteSoFar written was p.served = subst (λ (o : Option (List ℕ)). WroteSoFar written o p.served) (sym same) p.wrote in
     record {
       served = p.served;
       serves = p.moved.serves;
       enumerates = law;
       reads = reads_done left now then held new (requests_of p.served) p.moved.read next;
-      writes = writes_end written was was p.served end.Done (λ e. cc) p.wrote (wrote_none was);
+      writes = writes_end left then written was was p.served end.Done (λ e. cc) wrote (wrote_none was);
       moments = moments_of limits seat first front left now last told greatest session held p.served p.moved;
     }
 
-pub closed : (limits : Limits) (seat : ℕ) (first front : History) (left now then written was is : Option (List ℕ)) (last told : Option ℕ) (greatest : ℕ) (session : Session) (held new : Held) (wire_end : WireEnd) (result : ConnEnd)
-    → Progress limits seat first front left now written was last told greatest session held → NextOf held new now then (Err wire_end) → Closed was is wire_end result → Enumerates limits front
+-- the wire ended, and its last words were written or cut
+pub closed : {limits : Limits} {seat : ℕ} {first front : History} {left now written before was is : Option (List ℕ)} {last told : Option ℕ} {greatest : ℕ} {session : Session} {held : Held} {wired : WireEnd} {result : ConnEnd}
+    (mid then : Option (List ℕ)) (new : Held)
+    → Progress limits seat first front left now written before last told greatest session held
+    → was ≡ before → NextOf held new now mid (Err wired) → then ≡ mid → Closed was is wired result → Enumerates limits front
     → Headline limits seat first front left then written is last greatest result
-closed limits seat first front left now then written was is last told greatest session held new wire_end result p next closes law =
+closed {limits} {seat} {first} {front} {left} {now} {written} {before} {was} {is} {last} {told} {greatest} {session} {held} {wired} {result} mid then new p same next rest closes law =
     let moments = moments_of limits seat first front left now last told greatest session held p.served p.moved in
+    let wrote : WroteSoFar written was p.served = subst (λ (o : Option (List ℕ)). WroteSoFar written o p.served) (sym same) p.wrote in
+    let read : NextOf held new now then (Err wired) = subst (λ (o : Option (List ℕ)). NextOf held new now o (Err wired)) (sym rest) next in
+    let reads = reads_end left now then held new (requests_of p.served) wired closes.aim p.moved.read read closes.aims in
+    let P : ConnEnd → Type 0 = λ r. Headline limits seat first front left then written is last greatest r in
     ⊎_elim
     (λ (fine : (result ≡ closes.aim) × Wrote was is (last_words closes.aim)).
-    let P : ConnEnd → Type 0 = λ r. Headline limits seat first front left then written is last greatest r in
     subst P (sym fine.0) (record {
       served = p.served;
       serves = p.moved.serves;
       enumerates = law;
-      reads = reads_end left now then held new (requests_of p.served) wire_end closes.aim p.moved.read next closes.aims;
-      writes = writes_end written was is p.served closes.aim (λ e. never_a_fault wire_end (subst (λ (a : ConnEnd). Aims wire_end a) e closes.aims)) p.wrote fine.1;
+      reads = reads;
+      writes = writes_end left then written was is p.served closes.aim (λ e. never_a_fault wired (subst (λ (a : ConnEnd). Aims wired a) e closes.aims)) wrote fine.1;
       moments = moments;
     }))
     (λ (cut : (result ≡ end.WriteFault) × WroteSome was is (last_words closes.aim)).
-    let P : ConnEnd → Type 0 = λ r. Headline limits seat first front left then written is last greatest r in
     subst P (sym cut.0) (record {
       served = p.served;
       serves = p.moved.serves;
       enumerates = law;
       reads = reads_fault left now then held (requests_of p.served) p.moved.read;
-      writes = writes_fault written was is p.served closes.aim p.wrote cut.1;
+      writes = writes_fault left then written was is p.served closes.aim reads wrote cut.1;
       moments = moments;
     }))
     closes.wrote

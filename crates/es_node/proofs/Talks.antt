@@ -1,5 +1,5 @@
 -- Requests of one event.
-use Rattle.std.proofs.Common.{◌≡◌, MatchResult, IfOk, length, slice_get, slice_index, option_map, Result, Ok, Err, List, [], ◌∷◌, ◌++◌, ℕ, Option, Some, None, refl, sym, subst, ◌∙◌, ap, inl, inr, ⊎_elim, arith}
+use Rattle.std.proofs.Common.{◌≡◌, MatchResult, length, slice_get, slice_index, option_map, Result, Ok, Err, List, [], ◌∷◌, ◌++◌, ℕ, Option, Some, None, refl, sym, subst, ◌∙◌, ap, inl, inr, ⊎_elim, arith}
 use Rattle.std.proofs.lemmas.List.{append-nil}
 use Rattle.std.proofs.lemmas.List.Elements.{All-nil}
 use Rattle.list_machine.specs.declared.event.Entry.{Entry}
@@ -14,8 +14,9 @@ use Rattle.es_node.specs.declared.ask.Ask.{Ask}
 use Rattle.es_node.specs.declared.ask.Ask.TheVariants.{Refresh}
 use Rattle.es_node.specs.declared.fault.RestFault.{RestFault}
 use Rattle.es_node.specs.declared.reply.Response.{Response}
+use Rattle.es_node.specs.declared.reply.RouteName.{RouteName}
 use Rattle.es_node.specs.declared.reply.RouteName.TheVariants as route
-use Rattle.es_node.specs.Talk.{next, next_of, unless_refused, refusal, name_of, settled, route_of, Conversation, Interrupted, OneEvent, Published, publish_next}
+use Rattle.es_node.specs.Talk.{AsksOne, unless_refused, refusal, name_of, settled, route_of, Conversation, Interrupted, OneEvent, Published, publish_next}
 
 -- the first of a list of one, and no second
 first_of : (numbers : List ℕ) → length numbers ≡ 1 → slice_get numbers 0 ≡ Some (slice_index numbers 0)
@@ -41,39 +42,29 @@ grows_not seat most moment old =
       beside = record { none_asked = All-nil _; quiet = All-nil _; few = omega arith };
     }
 
--- what was asked and answered may have been asked
-pub may_have : (limits : Limits) (seat : ℕ) (old new : History) (entry : Entry) (reply : Reply) → Asked limits seat 4 old new entry reply → MayHaveAsked seat 4 old new entry
-may_have limits seat old new entry reply was = ⊎_elim (λ answered. inl answered.adds) (λ spent. inr spent.beside) was
-
 -- a request of one event
-pub one_event : (limits : Limits) (seat moment : ℕ) (ask : Ask) (old new : History) (event : Event) (response : Response)
-    → next ask [] ≡ Some event → ((reply : Reply) → next_of ask ((event, reply) ∷ []) ≡ None)
-    → OneEvent limits seat moment (name_of ask) (route_of ask) event old new response
+one_event : (limits : Limits) (seat moment : ℕ) (ask : Ask) (old new : History) (event : Event) (response : Response)
+    → AsksOne ask event → OneEvent limits seat moment (name_of ask) (route_of ask) event old new response
     → Conversation limits seat moment ask old new response
-one_event limits seat moment ask old new event response first last one =
+one_event limits seat moment ask old new event response asks one =
     record {
       part = (event, one.said) ∷ [];
-      talks = (new, first, one.was, refl);
-      all = ap (λ n. unless_refused (refusal (name_of ask) one.said) n) (last one.said) ∙ unless_none (refusal (name_of ask) one.said);
+      talks = (new, asks.first, one.was, refl);
+      all = ap (λ n. unless_refused (refusal (name_of ask) one.said) n) (asks.last one.said) ∙ unless_none (refusal (name_of ask) one.said);
       is = one.is;
     }
 
--- memory was wanted before the event was asked, or then
-pub one_tried : (limits : Limits) (seat moment : ℕ) (ask : Ask) (old new : History) (event : Event)
-    → next ask [] ≡ Some event → MayHaveAsked seat 4 old new (asked seat moment event)
-    → Interrupted limits seat moment ask old new
-one_tried limits seat moment ask old new event first tried =
-    record { part = []; mid = old; talks = refl; rest = inr (event, first, tried) }
-
 -- the same of what a call answers
-pub one_talk : (limits : Limits) (seat moment : ℕ) (ask : Ask) (old new : History) (event : Event) (name : List ℕ) {E : Type 0} (r : Result Response E)
-    → next ask [] ≡ Some event → ((reply : Reply) → next_of ask ((event, reply) ∷ []) ≡ None) → name ≡ name_of ask
-    → MatchResult r (OneEvent limits seat moment name (route_of ask) event old new) (λ _. MayHaveAsked seat 4 old new (asked seat moment event))
+pub one_talk : (limits : Limits) (seat moment : ℕ) (ask : Ask) (old new : History) (event : Event) (name : List ℕ) (route : RouteName) {E : Type 0} (r : Result Response E)
+    → AsksOne ask event → name ≡ name_of ask → route ≡ route_of ask
+    → MatchResult r (OneEvent limits seat moment name route event old new) (λ _. MayHaveAsked seat 4 old new (asked seat moment event))
     → MatchResult r (Conversation limits seat moment ask old new) (λ _. Interrupted limits seat moment ask old new)
-one_talk limits seat moment ask old new event name (Ok response) first last same one =
-    one_event limits seat moment ask old new event response first last
-    (subst (λ (n : List ℕ). OneEvent limits seat moment n (route_of ask) event old new response) same one)
-one_talk limits seat moment ask old new event name (Err e) first last same tried = one_tried limits seat moment ask old new event first tried
+one_talk limits seat moment ask old new event name route (Ok response) asks named routed one =
+    one_event limits seat moment ask old new event response asks
+    (subst (λ (n : List ℕ). OneEvent limits seat moment n (route_of ask) event old new response) named
+    (subst (λ (t : RouteName). OneEvent limits seat moment name t event old new response) routed one))
+one_talk limits seat moment ask old new event name route (Err e) asks named routed tried =
+    record { part = []; mid = old; talks = refl; rest = inr (event, asks.first, tried) }
 
 -- memory was wanted before anything was asked
 pub none_asked : (limits : Limits) (seat moment : ℕ) (ask : Ask) (old : History) → Interrupted limits seat moment ask old old
@@ -110,7 +101,7 @@ one_sealed limits seat moment old new index numbers reply law was is =
 -- a refresh of one shard: a Seal and a Publish
 pub refreshed : (limits : Limits) (seat moment : ℕ) (index numbers : List ℕ) (old mid new : History) (reply : Reply) {E : Type 0} (r : Result Response E)
     → length numbers ≡ 1 → reply ≡ Sealed numbers → Asked limits seat 4 old mid (asked seat moment (Seal index)) reply
-    → MatchResult r (Published limits seat moment index numbers (Publish index 0 (slice_index numbers 0)) mid new) (λ _. MayHaveAsked seat 4 mid new (asked seat moment (Publish index 0 (slice_index numbers 0))))
+    → MatchResult r (Published limits seat moment index route.Refresh numbers (Publish index 0 (slice_index numbers 0)) mid new) (λ _. MayHaveAsked seat 4 mid new (asked seat moment (Publish index 0 (slice_index numbers 0))))
     → MatchResult r (Conversation limits seat moment (Refresh index) old new) (λ _. Interrupted limits seat moment (Refresh index) old new)
 refreshed limits seat moment index numbers old mid new reply (Ok response) one is was published =
     let sealed : Event × Reply = (Seal index, Sealed numbers) in
@@ -133,27 +124,25 @@ refreshed limits seat moment index numbers old mid new reply (Err e) one is was 
     }
 
 -- a Seal that was answered no numbers
-pub not_sealed : (limits : Limits) (seat moment : ℕ) (index name : List ℕ) (old new : History) (reply back : Reply) {E : Type 0} (r : Result Response E)
-    → back ≡ reply → ((index : List ℕ) (count : ℕ) → publish_next index count reply ≡ None) → name ≡ index
+pub not_sealed : (limits : Limits) (seat moment : ℕ) (index : List ℕ) (old new : History) (reply back : Reply) (response : Response)
+    → back ≡ reply → ((index : List ℕ) (count : ℕ) → publish_next index count reply ≡ None)
     → Asked limits seat 4 old new (asked seat moment (Seal index)) reply
-    → IfOk r (λ response. response ≡ settled (refusal name back) back route.Refresh)
-    → MatchResult r (Conversation limits seat moment (Refresh index) old new) (λ _. Interrupted limits seat moment (Refresh index) old new)
-not_sealed limits seat moment index name old new reply back (Ok response) same none named was is =
-    let settles : response ≡ settled (refusal index reply) reply route.Refresh =
-    is ∙ (ap (λ (n : List ℕ). settled (refusal n back) back route.Refresh) named ∙ ap (λ (b : Reply). settled (refusal index b) b route.Refresh) same) in
+    → response ≡ settled (refusal index back) back route.Refresh
+    → Conversation limits seat moment (Refresh index) old new response
+not_sealed limits seat moment index old new reply back response same none was is =
     record {
       part = (Seal index, reply) ∷ [];
       talks = (new, refl, was, refl);
       all = ap (λ n. unless_refused (refusal index reply) n) (none index 0) ∙ unless_none (refusal index reply);
-      is = settles;
+      is = is ∙ ap (λ (b : Reply). settled (refusal index b) b route.Refresh) same;
     }
-not_sealed limits seat moment index name old new reply back (Err e) same none named was is =
-    record { part = (Seal index, reply) ∷ []; mid = new; talks = (new, refl, was, refl); rest = inl refl }
 
--- a Publish by another name of the same seat and limits
-pub same_publish : {limits other : Limits} {seat others : ℕ} → other ≡ limits → others ≡ seat → (moment : ℕ) (index numbers : List ℕ) (old new : History) {E : Type 0} (r : Result Response E)
-    → MatchResult r (Published other others moment index numbers (Publish index 0 (slice_index numbers 0)) old new) (λ _. MayHaveAsked others 4 old new (asked others moment (Publish index 0 (slice_index numbers 0))))
-    → MatchResult r (Published limits seat moment index numbers (Publish index 0 (slice_index numbers 0)) old new) (λ _. MayHaveAsked seat 4 old new (asked seat moment (Publish index 0 (slice_index numbers 0))))
-same_publish {limits} {other} {seat} {others} l s moment index numbers old new {E} r h =
-    let P : Limits → ℕ → Type 0 = λ k t. MatchResult r (Published k t moment index numbers (Publish index 0 (slice_index numbers 0)) old new) (λ _. MayHaveAsked t 4 old new (asked t moment (Publish index 0 (slice_index numbers 0)))) in
-    subst (λ (k : Limits). P k seat) l (subst (λ (t : ℕ). P other t) s h)
+-- a Publish by another name of the same seat, limits, label
+pub same_publish : {limits other : Limits} {seat others : ℕ} {name index : List ℕ} {to : RouteName} → other ≡ limits → others ≡ seat → name ≡ index → to ≡ route.Refresh
+    → (moment : ℕ) (numbers : List ℕ) (event : Event) (old new : History) {E : Type 0} (r : Result Response E)
+    → MatchResult r (Published other others moment name to numbers event old new) (λ _. MayHaveAsked others 4 old new (asked others moment event))
+    → MatchResult r (Published limits seat moment index route.Refresh numbers event old new) (λ _. MayHaveAsked seat 4 old new (asked seat moment event))
+same_publish {limits} {other} {seat} {others} {name} {index} {to} l s n t moment numbers event old new {E} r h =
+    let P : Limits → ℕ → List ℕ → RouteName → Type 0 = λ k i m q. MatchResult r (Published k i moment m q numbers event old new) (λ _. MayHaveAsked i 4 old new (asked i moment event)) in
+    subst (λ (k : Limits). P k seat index route.Refresh) l (subst (λ (i : ℕ). P other i index route.Refresh) s
+    (subst (λ (m : List ℕ). P other others m route.Refresh) n (subst (λ (q : RouteName). P other others name q) t h)))

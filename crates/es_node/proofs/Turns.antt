@@ -1,10 +1,11 @@
 -- Requests and their responses in turn.
-use Rattle.std.proofs.Common.{◌≡◌, refl, sym, ap, subst, inl, inr, ⊎_elim, ℕ, ◌+◌, ◌*◌, List, [], Option, Some, None, IfSome, IfNone, Result}
+use Rattle.std.proofs.Common.{◌≡◌, refl, sym, ap, subst, inl, inr, ⊎_elim, ◌⊎◌, ℕ, ◌+◌, ◌*◌, List, [], Option, Some, None, IfSome, IfNone, Result}
 use Rattle.std.proofs.lemmas.List.{append-nil}
 use Rattle.http_wire.specs.declared.wire.WireEnd.{WireEnd}
-use Rattle.http_wire.specs.Stream.{Wrote}
+use Rattle.http_wire.specs.Stream.{Wrote, WroteSome}
 use Rattle.list_machine.specs.Serving.{GrowsBeside, applied}
 use Rattle.es_node.specs.declared.connection.ConnEnd.{ConnEnd}
+use Rattle.es_node.specs.declared.connection.ConnEnd.TheVariants as end
 use Rattle.es_node.specs.declared.connection.Session.{Session}
 use Rattle.es_node.specs.Replies.{text}
 use Rattle.es_node.specs.Headline.{last_words}
@@ -45,6 +46,13 @@ wrote_none (Some w) = ap Some (sym (append-nil w))
 pub closed_silent : (written : Option (List ℕ)) (wire : WireEnd) (aim : ConnEnd) → Aims wire aim → last_words aim ≡ [] → Closed written written wire aim
 closed_silent written wire aim aims silent =
     record { aim = aim; aims = aims; wrote = inl (refl, subst (λ (words : List ℕ). Wrote written written words) (sym silent) (wrote_none written)) }
+
+-- an end with its words
+pub closed_with : (written now : Option (List ℕ)) (wire : WireEnd) (aim result : ConnEnd) (words : List ℕ) → Aims wire aim → words ≡ last_words aim
+    → ((result ≡ aim) × Wrote written now words) ⊎ ((result ≡ end.WriteFault) × WroteSome written now words) → Closed written now wire result
+closed_with written now wire aim result words aims said wrote =
+    let P : List ℕ → Type 0 = λ w. ((result ≡ aim) × Wrote written now w) ⊎ ((result ≡ end.WriteFault) × WroteSome written now w) in
+    record { aim = aim; aims = aims; wrote = subst P said wrote }
 
 -- a response with its text, or the one that memory is wanting
 pub answered_by : (limits : Limits) (seat moment newest after : ℕ) (old new : History) (request : Request) (response : Response) (made : Option (List ℕ))

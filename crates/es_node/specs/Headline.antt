@@ -1,5 +1,5 @@
 -- What a call that serves a connection did.
-use Rattle.std.specs.Prelude.{◌≡◌, ◌≢◌, ℕ, ◌<◌, ◌≤◌, true, List, [], ◌∷◌, ◌++◌, length, take, map, flat_map, Option, Some, None, All}
+use Rattle.std.specs.Prelude.{◌≡◌, ◌≢◌, ◌⊎◌, ℕ, ◌<◌, ◌≤◌, true, List, [], ◌∷◌, ◌++◌, length, take, map, flat_map, Option, Some, None, All}
 use Rattle.http_wire.specs.declared.request.Request.{Request}
 use Rattle.http_wire.specs.Requests.{HasNoRequest, IsRefused, IsUnfinished, Spells, connection_limit}
 use Rattle.list_machine.specs.declared.event.Limits.{Limits}
@@ -62,16 +62,35 @@ last_words Refused = text (Fault fault.NotBuilt) true
 last_words NoMemory = text (Fault fault.NoMemory) true
 last_words end = []
 
+-- these texts were written, and of the next words some first bytes and not all
+pub record IsCut (written : List ℕ) (after : Option (List ℕ)) (texts words : List ℕ) : Type 0 where
+  pub count : ℕ
+  pub short : count < length words
+  pub is : after ≡ Some (written ++ (texts ++ take count words))
+
+-- the responses to all but the last request were written, and its own was cut
+pub record IsCutInResponse (written : List ℕ) (after : Option (List ℕ)) (served : List Exchange) : Type 0 where
+  pub first : List Exchange
+  pub last : Exchange
+  pub served_are : served ≡ first ++ last ∷ []
+  pub cut : IsCut written after (texts_of first) (text last.response last.request.last)
+
+-- all responses were written, and the words of an end were cut, which the bytes or want of memory gave
+pub record IsCutAtEnd (left left_after : Option (List ℕ)) (written : List ℕ) (after : Option (List ℕ)) (served : List Exchange) : Type 0 where
+  pub aim : ConnEnd
+  pub reads : ReadsFrom left left_after (requests_of served) aim
+  pub cut : IsCut written after (texts_of served) (last_words aim)
+
 -- all of it was written, or at a fault some first bytes
-abbrev pub WroteWords : List ℕ → Option (List ℕ) → List ℕ → ConnEnd → Type 0
-WroteWords written after texts WriteFault =
-    (aim : ConnEnd) × (count : ℕ) × (after ≡ Some (written ++ take count (texts ++ last_words aim)))
-WroteWords written after texts end = after ≡ Some (written ++ (texts ++ last_words end))
+abbrev pub WroteWords : Option (List ℕ) → Option (List ℕ) → List ℕ → Option (List ℕ) → List Exchange → ConnEnd → Type 0
+WroteWords left left_after written after served WriteFault =
+    IsCutInResponse written after served ⊎ IsCutAtEnd left left_after written after served
+WroteWords left left_after written after served end = after ≡ Some (written ++ (texts_of served ++ last_words end))
 
 -- where the link tells what was written before the call
-abbrev pub WritesTo : Option (List ℕ) → Option (List ℕ) → List Exchange → ConnEnd → Type 0
-WritesTo None after served end = Unit {0}
-WritesTo (Some written) after served end = WroteWords written after (texts_of served) end
+abbrev pub WritesTo : Option (List ℕ) → Option (List ℕ) → Option (List ℕ) → Option (List ℕ) → List Exchange → ConnEnd → Type 0
+WritesTo left left_after None after served end = Unit {0}
+WritesTo left left_after (Some written) after served end = WroteWords left left_after written after served end
 
 -- ---- the moments
 
@@ -100,5 +119,5 @@ pub record Headline (limits : Limits) (seat : ℕ) (old new : History) (left lef
   pub serves : Serves limits seat 0 old new served
   pub enumerates : Enumerates limits new
   pub reads : ReadsFrom left left_after (requests_of served) end
-  pub writes : WritesTo written written_after served end
+  pub writes : WritesTo left left_after written written_after served end
   pub moments : AreMoments last greatest served

@@ -99,6 +99,11 @@ abbrev pub response_of : Ask → Part → Response
 response_of ask [] = Fault fault.NotBuilt
 response_of ask (said ∷ part) = settled (last_refusal ask (said ∷ part)) said.1 (route_of ask)
 
+-- a request asks for this event alone
+pub record AsksOne (ask : Ask) (event : Event) : Type 0 where
+  pub first : next ask [] ≡ Some event
+  pub last : (said : Reply) → next_of ask ((event, said) ∷ []) ≡ None
+
 -- The history goes from old to new while a seat asks for these events, behind those that it asked before, and
 -- gets these replies. All entries carry the moment.
 abbrev pub Talks : Limits → ℕ → ℕ → Ask → Part → History → History → Part → Type 0
@@ -128,10 +133,10 @@ pub record OneEvent (limits : Limits) (seat moment : ℕ) (name : List ℕ) (rou
   pub is : response ≡ settled (refusal name said) said route
 
 -- a Publish was asked, and behind it the response prints what was sealed
-pub record Published (limits : Limits) (seat moment : ℕ) (index : List ℕ) (numbers : List ℕ) (event : Event) (old new : History) (response : Response) : Type 0 where
+pub record Published (limits : Limits) (seat moment : ℕ) (name : List ℕ) (route : RouteName) (numbers : List ℕ) (event : Event) (old new : History) (response : Response) : Type 0 where
   pub said : Reply
   pub was : Asked limits seat 4 old new (asked seat moment event) said
-  pub is : response ≡ settled (refusal index said) (reply.Sealed numbers) route.Refresh
+  pub is : response ≡ settled (refusal name said) (reply.Sealed numbers) route
 
 -- some first events were asked, the next one perhaps
 pub record Interrupted (limits : Limits) (seat moment : ℕ) (ask : Ask) (old new : History) : Type 0 where

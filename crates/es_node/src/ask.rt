@@ -1,7 +1,6 @@
 ghost use Rattle.std.specs.Prelude.{◌≡◌, IfOk, IsTrue};
 ghost use Rattle.std.specs.List.{list_all};
 ghost use Rattle.es_types.specs.Name.{is_lower_or_digit};
-ghost use Rattle.list_machine.specs.State.{docs};
 ghost use Rattle.es_node.specs.Bodies.{trimmed};
 ghost use Rattle.es_node.specs.Talk.{AsksObject};
 ghost use Rattle.es_node.specs.Route.{Answers, asked_of, id_in, is_doc_path, is_opening, is_put, is_refresh, is_search, posts, put_of};
@@ -10,11 +9,11 @@ use crate::body::{is_object, search_of, trimmed};
 use crate::fault::RestFault;
 use es_types::{Bytes, Doc, DocId, IndexName, KeepAlive, NoMemory, Text};
 use http_wire::Request;
-use list_machine::{SearchRequest, Target};
+use list_machine::{SearchRequest, Target, docs};
 use std::alloc::Global;
 
 /// What a request asks for, with the values that it gives.
-#[derive(Debug, Drop)]
+#[derive(Drop)]
 pub enum Ask {
     Put {
         index: IndexName,
@@ -32,16 +31,6 @@ pub enum Ask {
         target: Target,
         request: SearchRequest,
     },
-}
-
-// The name of the index that is there from the start.
-fn docs(alloc: Global) -> Result<IndexName, NoMemory>
-    ensures { IfOk result (λ name. name ≡ docs) }
-{
-    match IndexName::make(Text::of(String::from_str(alloc, "docs")?)) {
-        Ok(name) => Ok(name),
-        Err(_) => unreachable!(),
-    }
 }
 
 fn is_put(request: &Request) -> bool

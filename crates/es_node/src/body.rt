@@ -74,7 +74,7 @@ pub fn is_object(alloc: Global, bytes: &[u8]) -> Result<bool, NoMemory>
 }
 
 /// What a search asks for.
-#[derive(Debug, Drop)]
+#[derive(Drop)]
 pub struct Wanted {
     pub number: u64,
     pub size: u32,

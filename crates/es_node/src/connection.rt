@@ -1,10 +1,11 @@
-ghost use Rattle.std.specs.Prelude.{◌≡◌, ◌⊎◌, ℕ, ◌+◌, ◌*◌, ◌≤◌, max, List, Option, Some, None, IfSome, IfNone, OnErr};
+ghost use Rattle.std.specs.Prelude.{◌≡◌, ◌⊎◌, ℕ, ◌+◌, ◌*◌, ◌<◌, ◌≤◌, max, List, Option, Some, None, IfSome, IfNone, OnOk, OnErr};
 ghost use Rattle.es_outside.specs.Told.{Rose};
 ghost use Rattle.http_wire.specs.Stream.{Wrote, WroteSome};
 ghost use Rattle.list_machine.specs.declared.event.Entry.{Entry};
 ghost use Rattle.list_machine.specs.Run.{state_of};
 ghost use Rattle.list_machine.specs.Serving.{GrowsBeside, applied};
 ghost use Rattle.es_node.specs.Headline.{Headline};
+ghost use Rattle.es_node.specs.Repeats.{ServesWhole};
 ghost use Rattle.es_node.specs.Replies.{text};
 ghost use Rattle.es_node.specs.Talk.{newest_after};
 ghost use Rattle.es_node.specs.Turns.{Answered, Closed, Exchanged, LastGoesOn, WroteBy, words_text};
@@ -19,7 +20,7 @@ use list_machine::{Reply, Service, pages_in_turn};
 use std::alloc::Global;
 
 /// How a call that serves a connection ended.
-#[derive(Clone, Copy, Debug, PartialEq, Eq)]
+#[derive(Clone, Copy)]
 pub enum ConnEnd {
     /// The input ended between two requests.
     Done,
@@ -97,6 +98,7 @@ fn answer<V: Service>(
 fn write_words<L: Link>(link: &mut L, words: &Words, last: bool) -> Result<(), WriteFault>
     ensures wrote { WroteBy (L.written link.old) (L.written link.new) (words_text words.now.text last) result }
     ensures fault { OnErr result (Rose (L.write_faults link.old) (L.write_faults link.new)) }
+    ensures uncounted { OnOk result (L.write_faults link.new ≡ L.write_faults link.old) }
     ensures count { L.write_faults link.old ≤ L.write_faults link.new }
     ensures left { L.left link.new ≡ L.left link.old }
     ensures read_faults { L.read_faults link.new ≡ L.read_faults link.old }
@@ -108,13 +110,7 @@ fn write_words<L: Link>(link: &mut L, words: &Words, last: bool) -> Result<(), W
     }
 }
 
-fn later(a: Moment, b: Moment) -> Moment
-    ensures { result ≡ max a b }
-{
-    if a.millis() < b.millis() { b } else { a }
-}
-
-// What goes with every request whose response was written. Want of memory here is dropped.
+// What goes with a request. It is left out where the response wasn't written, and want of memory in it is dropped.
 fn tidy_up<V: Service>(service: &mut V, moment: Moment, written: bool)
     ensures helps { (helped : List Entry) × GrowsBeside (V.seat service.old) 4 moment (V.front service.old) helped
         × GrowsBeside (V.seat service.old) (4 + 2 * applied (state_of (V.limits service.old) helped)) moment helped (V.front service.new) }
@@ -146,12 +142,13 @@ fn exchange<V: Service, L: Link, C: Clock>(
     ensures greatest { C.greatest clock.old ≤ C.greatest clock.new }
     ensures last { LastGoesOn (C.last clock.old) (C.last clock.new) session.old.moment session.new.moment }
     ensures fault { OnErr result (Rose (L.write_faults link.old) (L.write_faults link.new)) }
+    ensures uncounted { OnOk result (L.write_faults link.new ≡ L.write_faults link.old) }
     ensures count { L.write_faults link.old ≤ L.write_faults link.new }
     ensures left { L.left link.new ≡ L.left link.old }
     ensures read_faults { L.read_faults link.new ≡ L.read_faults link.old }
     ensures held { L.held link.new ≡ L.held link.old }
 {
-    let moment = later(session.moment, clock.now(None));
+    let moment = session.moment.later(clock.now(None));
     let words = answer(alloc, service, request, session.newest, moment);
     *session = Session {
         newest: words.newest,
@@ -166,6 +163,7 @@ fn write_last<L: Link>(link: &mut L, words: &[u8], aim: ConnEnd) -> ConnEnd
     ensures wrote { ((result ≡ aim) × Wrote (L.written link.old) (L.written link.new) words.now)
         ⊎ ((result ≡ ConnEnd.WriteFault) × WroteSome (L.written link.old) (L.written link.new) words.now) }
     ensures fault { result ≡ ConnEnd.WriteFault → (aim ≡ ConnEnd.WriteFault) ⊎ Rose (L.write_faults link.old) (L.write_faults link.new) }
+    ensures reported { L.write_faults link.old < L.write_faults link.new → result ≡ ConnEnd.WriteFault }
     ensures count { L.write_faults link.old ≤ L.write_faults link.new }
     ensures left { L.left link.new ≡ L.left link.old }
     ensures read_faults { L.read_faults link.new ≡ L.read_faults link.old }
@@ -180,6 +178,8 @@ fn write_last<L: Link>(link: &mut L, words: &[u8], aim: ConnEnd) -> ConnEnd
 // Ends a connection: a refused head and want of memory have a response.
 fn close<L: Link>(alloc: Global, link: &mut L, end: WireEnd) -> ConnEnd
     ensures closed { Closed (L.written link.old) (L.written link.new) end result }
+    ensures silent { end ≡ WireEnd.ReadFault → result ≡ ConnEnd.ReadFault }
+    ensures reported { L.write_faults link.old < L.write_faults link.new → result ≡ ConnEnd.WriteFault }
     ensures fault { result ≡ ConnEnd.WriteFault → Rose (L.write_faults link.old) (L.write_faults link.new) }
     ensures count { L.write_faults link.old ≤ L.write_faults link.new }
     ensures left { L.left link.new ≡ L.left link.old }
@@ -198,20 +198,19 @@ fn close<L: Link>(alloc: Global, link: &mut L, end: WireEnd) -> ConnEnd
     }
 }
 
-/// Serves the requests of a link until its end: each request is read, answered by the service, and its response
-/// written.
-pub fn serve_connection<V: Service, L: Link, C: Clock>(
+// Serves the requests of a link until its end.
+fn serve_requests<V: Service, L: Link, C: Clock>(
     alloc: Global,
     service: &mut V,
     link: &mut L,
     clock: &mut C,
 ) -> ConnEnd
-    // Each response is what a plain machine of one thread over lists answers at that request's place in one
-    // history; so pages taken in turn are a prefix of the sorted matching documents, and all of them at the end.
     ensures headline { Headline (V.limits service.old) (V.seat service.old) (V.front service.old) (V.front service.new)
         (L.left link.old) (L.left link.new) (L.written link.old) (L.written link.new) (C.last clock.old) (C.greatest clock.new) result }
     ensures read_fault { result ≡ ConnEnd.ReadFault → Rose (L.read_faults link.old) (L.read_faults link.new) }
     ensures write_fault { result ≡ ConnEnd.WriteFault → Rose (L.write_faults link.old) (L.write_faults link.new) }
+    ensures read_reported { L.read_faults link.old < L.read_faults link.new → result ≡ ConnEnd.ReadFault }
+    ensures write_reported { L.write_faults link.old < L.write_faults link.new → result ≡ ConnEnd.WriteFault }
     ensures seat { V.seat service.new ≡ V.seat service.old }
     ensures limits { V.limits service.new ≡ V.limits service.old }
     ensures held { L.held link.new ≡ L.held link.old }
@@ -228,12 +227,41 @@ pub fn serve_connection<V: Service, L: Link, C: Clock>(
     'requests: loop {
         match next_request(alloc, link, &mut buf) {
             Ok(Some(request)) => {
-                if exchange(alloc, service, link, clock, &request, &mut session).is_err() {
-                    return ConnEnd::WriteFault;
+                match exchange(alloc, service, link, clock, &request, &mut session) {
+                    Ok(()) => {}
+                    Err(_) => return ConnEnd::WriteFault,
                 }
             }
             Ok(None) => return ConnEnd::Done,
             Err(end) => return close(alloc, link, end),
         }
     }
+}
+
+/// Serves the requests of a link until its end: each request is read, answered by the service, and its response
+/// written. A fault of the link ends the call.
+pub fn serve_connection<V: Service, L: Link, C: Clock>(
+    alloc: Global,
+    service: &mut V,
+    link: &mut L,
+    clock: &mut C,
+) -> ConnEnd
+    // Each response is what a plain machine of one thread over lists answers at that request's place in one
+    // history; so pages taken in turn are a prefix of the sorted matching documents, and all of them at the end.
+    ensures headline { Headline (V.limits service.old) (V.seat service.old) (V.front service.old) (V.front service.new)
+        (L.left link.old) (L.left link.new) (L.written link.old) (L.written link.new) (C.last clock.old) (C.greatest clock.new) result }
+    // What is left, where it is whole requests, is answered wholly.
+    ensures complete { ServesWhole (V.limits service.old) (V.seat service.old) (V.front service.old) (V.front service.new)
+        (L.left link.old) (L.left link.new) (L.written link.old) (L.written link.new) (C.last clock.old) (C.greatest clock.new)
+        (L.read_faults link.old) (L.read_faults link.new) (L.write_faults link.old) (L.write_faults link.new) result }
+    // A fault is answered only where the count rose, and wherever it rose.
+    ensures read_fault { result ≡ ConnEnd.ReadFault → Rose (L.read_faults link.old) (L.read_faults link.new) }
+    ensures write_fault { result ≡ ConnEnd.WriteFault → Rose (L.write_faults link.old) (L.write_faults link.new) }
+    ensures read_reported { L.read_faults link.old < L.read_faults link.new → result ≡ ConnEnd.ReadFault }
+    ensures write_reported { L.write_faults link.old < L.write_faults link.new → result ≡ ConnEnd.WriteFault }
+    ensures seat { V.seat service.new ≡ V.seat service.old }
+    ensures limits { V.limits service.new ≡ V.limits service.old }
+    ensures held { L.held link.new ≡ L.held link.old }
+{
+    serve_requests(alloc, service, link, clock)
 }

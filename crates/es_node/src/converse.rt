@@ -1,36 +1,91 @@
-ghost use Rattle.std.specs.Prelude.{◌≡◌, ℕ, ◌+◌, ◌*◌, List, IfOk, MatchResult, length, slice_index};
-ghost use Rattle.list_machine.specs.Objects.{IsObject};
+ghost use Rattle.std.specs.Prelude.{◌≡◌, ◌+◌, ◌*◌, ℕ, List, IfOk, MatchResult, length, slice_index};
+ghost use Rattle.list_machine.specs.declared.event.Limits.{Limits};
+ghost use Rattle.list_machine.specs.Run.{History};
 ghost use Rattle.list_machine.specs.Serving.{HasSealed, IsAskable, MayHaveAsked, asked};
-ghost use Rattle.es_node.specs.declared.ask.Ask.TheVariants as ask;
-ghost use Rattle.es_node.specs.Ids.{id_text};
-ghost use Rattle.es_node.specs.Talk.{AsksObject, Conversation, Interrupted, OneEvent, Published, Responds, publish_next, refusal, settled, status_of};
+ghost use Rattle.es_node.specs.declared.ask.Ask.TheVariants as asks;
+ghost use Rattle.es_node.specs.Talk.{AsksObject, AsksOne, Conversation, Interrupted, OneEvent, Published, Responds, name_of, publish_next, refusal, route_of, settled, status_of};
 
 use crate::ask::{Ask, route};
 use crate::fault::RestFault;
 use crate::ids::id_text;
 use crate::reply::{Response, RouteName};
-use es_types::{Copied, Doc, DocId, IndexName, Items, KeepAlive, Moment, NoMemory, Text};
+use es_types::{Copied, DocId, IndexName, Items, Moment, NoMemory, Text};
 use http_wire::Request;
-use list_machine::{Change, Event, Reply, SearchRequest, Service, Target, Wrote, sound_states};
+use list_machine::{Change, Event, Reply, Service, Target, Wrote, sound_states};
 use std::alloc::Global;
 
-fn text_of(alloc: Global, text: &str) -> Result<Text, NoMemory>
-    ensures { IfOk result (λ copy. copy ≡ text.now) }
+// By what a request is answered: the name that its refusals print, and its route.
+#[derive(Drop)]
+struct Label {
+    name: Text,
+    route: RouteName,
+}
+
+fn label_of_put(alloc: Global, index: &IndexName, id: &DocId) -> Result<Label, NoMemory>
+    ensures name { IfOk result (λ label. label.name ≡ index.now) }
+    ensures route { IfOk result (λ label. label.route ≡ RouteName.Put index.now id.now) }
 {
-    Ok(Text::of(String::from_str(alloc, text)?))
+    let name = index.text().copy(alloc)?;
+    let index = index.copy(alloc)?;
+    let id = id.copy(alloc)?;
+    Ok(Label {
+        name,
+        route: RouteName::Put { index, id },
+    })
+}
+
+fn label_of(alloc: Global, ask: &Ask) -> Result<Label, NoMemory>
+    ensures name { IfOk result (λ label. label.name ≡ name_of ask.now) }
+    ensures route { IfOk result (λ label. label.route ≡ route_of ask.now) }
+{
+    match ask {
+        Ask::Put { index, id, doc: _ } => label_of_put(alloc, index, id),
+        Ask::Refresh { index } => Ok(Label {
+            name: index.text().copy(alloc)?,
+            route: RouteName::Refresh,
+        }),
+        Ask::OpenPit { index, keep: _ } => Ok(Label {
+            name: index.text().copy(alloc)?,
+            route: RouteName::OpenPit,
+        }),
+        Ask::Search {
+            target: Target::Pit { number },
+            request: _,
+        } => Ok(Label {
+            name: id_text(alloc, *number)?,
+            route: RouteName::Search { pit: *number },
+        }),
+    }
+}
+
+// The one event of a request, or the index that it refreshes.
+fn event_of(ask: Ask) -> Result<Event, IndexName>
+    ensures which { MatchResult result (AsksOne ask) (λ index. ask ≡ asks.Refresh index) }
+    ensures askable { AsksObject ask → IfOk result (λ event. (limits : Limits) (history : History) → IsAskable limits history event) }
+{
+    match ask {
+        Ask::Put { index, id, doc } => Ok(Event::Write {
+            index,
+            id,
+            change: Change::Put(doc),
+        }),
+        Ask::Refresh { index } => Err(index),
+        Ask::OpenPit { index, keep } => Ok(Event::OpenPit { index, keep }),
+        Ask::Search { target, request } => Ok(Event::Search { target, request }),
+    }
 }
 
 // Why a reply refuses its event, where it does. The request names `name`.
-fn refusal(alloc: Global, name: &str, reply: &Reply) -> Result<Option<RestFault>, NoMemory>
-    ensures { IfOk result (λ fault. fault ≡ refusal name.now reply.now) }
+fn refusal(name: Text, reply: &Reply) -> Option<RestFault>
+    ensures { result ≡ refusal name reply.now }
 {
     match reply {
-        Reply::Spent => Ok(Some(RestFault::Spent)),
-        Reply::NoIndex => Ok(Some(RestFault::NoIndex(text_of(alloc, name)?))),
-        Reply::Missing => Ok(Some(RestFault::NoContext(text_of(alloc, name)?))),
-        Reply::TooMany { limit } => Ok(Some(RestFault::TooMany(*limit))),
-        Reply::ShardFull => Ok(Some(RestFault::ShardFull)),
-        _ => Ok(None),
+        Reply::Spent => Some(RestFault::Spent),
+        Reply::NoIndex => Some(RestFault::NoIndex(name)),
+        Reply::Missing => Some(RestFault::NoContext(name)),
+        Reply::TooMany { limit } => Some(RestFault::TooMany(*limit)),
+        Reply::ShardFull => Some(RestFault::ShardFull),
+        _ => None,
     }
 }
 
@@ -47,125 +102,37 @@ fn status_of(reply: &Reply) -> u16
     }
 }
 
-// What a reply on a route is answered.
-fn settle(alloc: Global, name: &str, reply: Reply, route: RouteName) -> Result<Response, NoMemory>
-    ensures { IfOk result (λ response. response ≡ settled (refusal name.now reply) reply route) }
+// What a reply on a route is answered, unless it was refused.
+fn settle(refused: Option<RestFault>, reply: Reply, route: RouteName) -> Response
+    ensures { result ≡ settled refused reply route }
 {
-    match refusal(alloc, name, &reply)? {
-        Some(fault) => Ok(Response::Fault(fault)),
-        None => Ok(Response::Json {
+    match refused {
+        Some(fault) => Response::Fault(fault),
+        None => Response::Json {
             status: status_of(&reply),
             reply,
             route,
-        }),
+        },
     }
 }
 
-// Asks for one event, and answers its reply on the route.
+// Asks for one event, and answers its reply.
 fn ask_one<V: Service>(
-    alloc: Global,
     service: &mut V,
     event: Event,
-    name: &str,
-    route: RouteName,
+    label: Label,
     moment: Moment,
 ) -> Result<Response, NoMemory>
     requires { IsAskable (V.limits service.old) (V.front service.old) event }
     ensures talk { MatchResult result
-        (OneEvent (V.limits service.old) (V.seat service.old) moment name.now route event (V.front service.old) (V.front service.new))
+        (OneEvent (V.limits service.old) (V.seat service.old) moment label.name label.route event (V.front service.old) (V.front service.new))
         (λ _. MayHaveAsked (V.seat service.old) 4 (V.front service.old) (V.front service.new) (asked (V.seat service.old) moment event)) }
     ensures seat { V.seat service.new ≡ V.seat service.old }
     ensures limits { V.limits service.new ≡ V.limits service.old }
 {
     let reply = service.ask(event, moment)?;
-    let response = settle(alloc, name, reply, route)?;
-    Ok(response)
-}
-
-fn put_route(alloc: Global, index: &IndexName, id: &DocId) -> Result<RouteName, NoMemory>
-    ensures { IfOk result (λ route. route ≡ RouteName.Put index.now id.now) }
-{
-    let index = index.copy(alloc)?;
-    let id = id.copy(alloc)?;
-    Ok(RouteName::Put { index, id })
-}
-
-fn put<V: Service>(
-    alloc: Global,
-    service: &mut V,
-    index: IndexName,
-    id: DocId,
-    doc: Doc,
-    moment: Moment,
-) -> Result<Response, NoMemory>
-    requires { IsObject doc.source }
-    ensures talk { MatchResult result
-        (Conversation (V.limits service.old) (V.seat service.old) moment (ask.Put index id doc) (V.front service.old) (V.front service.new))
-        (λ _. Interrupted (V.limits service.old) (V.seat service.old) moment (ask.Put index id doc) (V.front service.old) (V.front service.new)) }
-    ensures seat { V.seat service.new ≡ V.seat service.old }
-    ensures limits { V.limits service.new ≡ V.limits service.old }
-{
-    let name = index.copy(alloc)?;
-    let route = put_route(alloc, &index, &id)?;
-    let event = Event::Write {
-        index,
-        id,
-        change: Change::Put(doc),
-    };
-    ask_one(alloc, service, event, name.text().as_str(), route, moment)
-}
-
-fn open<V: Service>(
-    alloc: Global,
-    service: &mut V,
-    index: IndexName,
-    keep: KeepAlive,
-    moment: Moment,
-) -> Result<Response, NoMemory>
-    ensures talk { MatchResult result
-        (Conversation (V.limits service.old) (V.seat service.old) moment (ask.OpenPit index keep) (V.front service.old) (V.front service.new))
-        (λ _. Interrupted (V.limits service.old) (V.seat service.old) moment (ask.OpenPit index keep) (V.front service.old) (V.front service.new)) }
-    ensures seat { V.seat service.new ≡ V.seat service.old }
-    ensures limits { V.limits service.new ≡ V.limits service.old }
-{
-    let name = index.copy(alloc)?;
-    let event = Event::OpenPit { index, keep };
-    ask_one(
-        alloc,
-        service,
-        event,
-        name.text().as_str(),
-        RouteName::OpenPit,
-        moment,
-    )
-}
-
-fn search<V: Service>(
-    alloc: Global,
-    service: &mut V,
-    number: u64,
-    request: SearchRequest,
-    moment: Moment,
-) -> Result<Response, NoMemory>
-    ensures talk { MatchResult result
-        (Conversation (V.limits service.old) (V.seat service.old) moment (ask.Search (Target.Pit number) request) (V.front service.old) (V.front service.new))
-        (λ _. Interrupted (V.limits service.old) (V.seat service.old) moment (ask.Search (Target.Pit number) request) (V.front service.old) (V.front service.new)) }
-    ensures seat { V.seat service.new ≡ V.seat service.old }
-    ensures limits { V.limits service.new ≡ V.limits service.old }
-{
-    let name = id_text(alloc, number)?;
-    let event = Event::Search {
-        target: Target::Pit { number },
-        request,
-    };
-    ask_one(
-        alloc,
-        service,
-        event,
-        name.as_str(),
-        RouteName::Search { pit: number },
-        moment,
-    )
+    let refused = refusal(label.name, &reply);
+    Ok(settle(refused, reply, label.route))
 }
 
 // The numbers that a Seal answered, or the reply back.
@@ -182,57 +149,56 @@ fn sealed_numbers(reply: Reply) -> Result<Items<u64>, Reply>
 
 // Publishes the one shard of an index up to the number that was sealed for it.
 fn publish<V: Service>(
-    alloc: Global,
     service: &mut V,
     index: IndexName,
+    label: Label,
     numbers: Items<u64>,
     moment: Moment,
 ) -> Result<Response, NoMemory>
     requires one { length numbers ≡ 1 }
     requires sealed { HasSealed (V.limits service.old) (V.front service.old) index 0 (slice_index numbers 0) }
     ensures talk { let publish = Event.Publish index 0 (slice_index numbers 0) in MatchResult result
-        (Published (V.limits service.old) (V.seat service.old) moment index numbers publish (V.front service.old) (V.front service.new))
+        (Published (V.limits service.old) (V.seat service.old) moment label.name label.route numbers publish (V.front service.old) (V.front service.new))
         (λ _. MayHaveAsked (V.seat service.old) 4 (V.front service.old) (V.front service.new) (asked (V.seat service.old) moment publish)) }
     ensures seat { V.seat service.new ≡ V.seat service.old }
     ensures limits { V.limits service.new ≡ V.limits service.old }
 {
     let upto = numbers.as_slice()[0];
-    let name = index.copy(alloc)?;
     let event = Event::Publish {
         index,
         shard: 0,
         upto,
     };
     let said = service.ask(event, moment)?;
-    match refusal(alloc, name.text().as_str(), &said)? {
-        Some(fault) => Ok(Response::Fault(fault)),
-        None => Ok(Response::Json {
-            status: 200,
-            reply: Reply::Sealed(numbers),
-            route: RouteName::Refresh,
-        }),
-    }
+    let refused = refusal(label.name, &said);
+    Ok(settle(refused, Reply::Sealed(numbers), label.route))
 }
 
+// Seals an index, and publishes what was sealed.
 fn refresh<V: Service>(
     alloc: Global,
     service: &mut V,
     index: IndexName,
+    label: Label,
     moment: Moment,
 ) -> Result<Response, NoMemory>
+    requires name { label.name ≡ index }
+    requires route { label.route ≡ RouteName.Refresh }
     ensures talk { MatchResult result
-        (Conversation (V.limits service.old) (V.seat service.old) moment (ask.Refresh index) (V.front service.old) (V.front service.new))
-        (λ _. Interrupted (V.limits service.old) (V.seat service.old) moment (ask.Refresh index) (V.front service.old) (V.front service.new)) }
+        (Conversation (V.limits service.old) (V.seat service.old) moment (asks.Refresh index) (V.front service.old) (V.front service.new))
+        (λ _. Interrupted (V.limits service.old) (V.seat service.old) moment (asks.Refresh index) (V.front service.old) (V.front service.new)) }
     ensures seat { V.seat service.new ≡ V.seat service.old }
     ensures limits { V.limits service.new ≡ V.limits service.old }
 {
     sound_states();
-    let name = index.copy(alloc)?;
     let sealed = index.copy(alloc)?;
     let reply = service.ask(Event::Seal { index: sealed }, moment)?;
     match sealed_numbers(reply) {
-        Ok(numbers) => publish(alloc, service, index, numbers, moment),
-        Err(reply) => settle(alloc, name.text().as_str(), reply, RouteName::Refresh),
+        Ok(numbers) => publish(service, index, label, numbers, moment),
+        Err(reply) => {
+            let refused = refusal(label.name, &reply);
+            Ok(settle(refused, reply, label.route))
+        }
     }
 }
 
@@ -250,14 +216,10 @@ fn converse<V: Service>(
     ensures seat { V.seat service.new ≡ V.seat service.old }
     ensures limits { V.limits service.new ≡ V.limits service.old }
 {
-    match ask {
-        Ask::Put { index, id, doc } => put(alloc, service, index, id, doc, moment),
-        Ask::Refresh { index } => refresh(alloc, service, index, moment),
-        Ask::OpenPit { index, keep } => open(alloc, service, index, keep, moment),
-        Ask::Search {
-            target: Target::Pit { number },
-            request,
-        } => search(alloc, service, number, request, moment),
+    let label = label_of(alloc, &ask)?;
+    match event_of(ask) {
+        Ok(event) => ask_one(service, event, label, moment),
+        Err(index) => refresh(alloc, service, index, label, moment),
     }
 }
 

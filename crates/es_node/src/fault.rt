@@ -5,7 +5,7 @@ use es_types::Text;
 use std::alloc::AllocError;
 
 /// Why a request is refused.
-#[derive(Debug, Drop)]
+#[derive(Drop)]
 pub enum RestFault {
     /// A form that isn't built yet.
     NotBuilt,

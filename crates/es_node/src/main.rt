@@ -2,6 +2,9 @@
 //! writes their responses to standard output.
 #![tactic(auto)]
 
+ghost use Rattle.std.specs.Prelude.{◌≡◌, ◌↔◌, false};
+ghost use Rattle.es_node.specs.Running.{is_replay};
+
 mod adapter;
 mod ask;
 mod body;
@@ -37,7 +40,9 @@ fn words(rt: &HostRuntime, alloc: Global) -> io::Result<Vec<Text>> {
 }
 
 // Runs the command over standard input and output.
-fn run_words(rt: &HostRuntime, alloc: Global, words: &[Text]) -> Status {
+fn run_words(rt: &HostRuntime, alloc: Global, words: &[Text]) -> Status
+    ensures { (result ≡ Status.Usage) ↔ (is_replay words.now ≡ false) }
+{
     let mut input = Input {
         reader: rt.stdin(),
         faults: 0,

@@ -12,7 +12,7 @@ use list_machine::{Reply, Wrote};
 use std::alloc::Global;
 
 /// Which route a reply answers, with what its text names.
-#[derive(Debug, Drop)]
+#[derive(Drop)]
 pub enum RouteName {
     Put { index: IndexName, id: DocId },
     Refresh,
@@ -21,7 +21,7 @@ pub enum RouteName {
 }
 
 /// What a request is answered.
-#[derive(Debug, Drop)]
+#[derive(Drop)]
 pub enum Response {
     Json {
         status: u16,
@@ -195,8 +195,12 @@ mod tests {
 
     fn hit(alloc: Global, id: &str, source: &str, shown: i64) -> Result<Hit, Fail> {
         Ok(Hit {
-            index: IndexName::make(Text::of(String::from_str(alloc, "i")?))?,
-            id: DocId::make(Text::of(String::from_str(alloc, id)?))?,
+            index: IndexName::make(Text::of(String::from_str(alloc, "i")?))
+                .ok()
+                .ok_or("a name")?,
+            id: DocId::make(Text::of(String::from_str(alloc, id)?))
+                .ok()
+                .ok_or("an id")?,
             source: Bytes::of(Vec::from_slice(alloc, source.as_bytes())?),
             shown: Items::of(vec![in alloc; Value::Long(shown)]?),
         })

@@ -1,4 +1,4 @@
-ghost use Rattle.std.specs.Prelude.{◌≡◌, ◌↔◌, true, false};
+ghost use Rattle.std.specs.Prelude.{◌≡◌, ◌<◌, ◌↔◌, true, false};
 ghost use Rattle.es_outside.specs.Told.{Rose};
 ghost use Rattle.es_node.specs.Repeats.{Completes};
 ghost use Rattle.es_node.specs.Running.{Replays, end_status, is_replay, status_code};
@@ -11,7 +11,7 @@ use list_machine::Limits;
 use std::alloc::Global;
 
 /// How a program ended. Its exit status is the position of the variant here, from 0.
-#[derive(Clone, Copy, Debug, PartialEq, Eq)]
+#[derive(Clone, Copy, PartialEq, Eq)]
 pub enum Status {
     /// The input ended between two requests.
     Done,
@@ -81,6 +81,8 @@ fn replay<S: Source, K: Sink>(alloc: Global, source: &mut S, sink: &mut K) -> St
     ensures replays { Replays (S.left source.old) (S.left source.new) (K.written sink.old) (K.written sink.new) result }
     ensures read_fault { result ≡ Status.ReadFault → Rose (S.read_faults source.old) (S.read_faults source.new) }
     ensures write_fault { result ≡ Status.WriteFault → Rose (K.write_faults sink.old) (K.write_faults sink.new) }
+    ensures read_reported { S.read_faults source.old < S.read_faults source.new → result ≡ Status.ReadFault }
+    ensures write_reported { K.write_faults sink.old < K.write_faults sink.new → result ≡ Status.WriteFault }
     ensures usage { result ≡ Status.Usage → ⊥ }
 {
     let mut solo = match Solo::make(alloc, LIMITS) {
@@ -106,8 +108,11 @@ pub fn run<S: Source, K: Sink>(
     ensures untouched { result ≡ Status.Usage → (source.new ≡ source.old) × (sink.new ≡ sink.old) }
     // Else each response is what a plain machine of one thread over lists answers.
     ensures replays { is_replay words.now ≡ true → Replays (S.left source.old) (S.left source.new) (K.written sink.old) (K.written sink.new) result }
+    // A fault is the status only where the count rose, and wherever it rose.
     ensures read_fault { result ≡ Status.ReadFault → Rose (S.read_faults source.old) (S.read_faults source.new) }
     ensures write_fault { result ≡ Status.WriteFault → Rose (K.write_faults sink.old) (K.write_faults sink.new) }
+    ensures read_reported { S.read_faults source.old < S.read_faults source.new → result ≡ Status.ReadFault }
+    ensures write_reported { K.write_faults sink.old < K.write_faults sink.new → result ≡ Status.WriteFault }
     // An input of whole requests is answered wholly.
     ensures complete { is_replay words.now ≡ true → Completes (S.left source.old) (S.left source.new) (K.written sink.old) (K.written sink.new)
         (S.read_faults source.old) (S.read_faults source.new) (K.write_faults sink.old) (K.write_faults sink.new) result }

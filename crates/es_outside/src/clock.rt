@@ -25,7 +25,7 @@ pub trait Clock {
 }
 
 /// A clock that is told the moments, and else answers the last one again.
-#[derive(Debug, Drop)]
+#[derive(Drop)]
 pub struct ReplayClock {
     last: Moment,
     greatest: Moment,
@@ -59,9 +59,7 @@ impl Clock for ReplayClock {
         if let Some(moment) = told {
             self.last = moment;
         }
-        if self.greatest.millis() < self.last.millis() {
-            self.greatest = self.last;
-        }
+        self.greatest = self.greatest.later(self.last);
         self.last
     }
 

@@ -7,8 +7,6 @@ mod clock;
 mod link;
 mod sink;
 mod source;
-#[cfg(test)]
-mod tests;
 
 pub use clock::{Clock, ReplayClock};
 pub use link::{Link, Pair};

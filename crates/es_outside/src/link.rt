@@ -1,4 +1,4 @@
-ghost use Rattle.std.specs.Prelude.{◌≡◌, ℕ, ◌<◌, ◌≤◌, List, [], ◌∷◌, length, Option, IfOk, OnErr};
+ghost use Rattle.std.specs.Prelude.{◌≡◌, ℕ, ◌<◌, ◌≤◌, List, [], ◌∷◌, length, Option, IfOk, OnOk, OnErr};
 ghost use Rattle.es_outside.specs.Told.{Gives, Rose, Takes};
 
 use crate::{Failed, Sink, Source};
@@ -27,6 +27,7 @@ pub trait Link {
         ensures within { IfOk result (λ count. count ≤ length room.old) }
         ensures bytes { IfOk result (λ count. Gives (left self.old) (left self.new) room.new count) }
         ensures count { read_faults self.old ≤ read_faults self.new }
+        ensures uncounted { OnOk result (read_faults self.new ≡ read_faults self.old) }
         ensures cause { OnErr result (Rose (read_faults self.old) (read_faults self.new)) }
         ensures same { OnErr result (left self.new ≡ left self.old) }
         ensures written { written self.new ≡ written self.old }
@@ -39,6 +40,7 @@ pub trait Link {
         ensures within { IfOk result (λ count. (0 < count) × (count ≤ length piece.now)) }
         ensures bytes { IfOk result (λ count. Takes (written self.old) (written self.new) piece.now count) }
         ensures count { write_faults self.old ≤ write_faults self.new }
+        ensures uncounted { OnOk result (write_faults self.new ≡ write_faults self.old) }
         ensures cause { OnErr result (Rose (write_faults self.old) (write_faults self.new)) }
         ensures same { OnErr result (written self.new ≡ written self.old) }
         ensures left { left self.new ≡ left self.old }

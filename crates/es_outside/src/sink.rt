@@ -1,12 +1,11 @@
-ghost use Rattle.std.specs.Prelude.{◌≡◌, ℕ, ◌<◌, ◌≤◌, ◌++◌, [], List, length, Option, Some, Contains, IfOk, OnErr, IsErr, MatchResult, is_ok, if◌then◌else◌};
+ghost use Rattle.std.specs.Prelude.{◌≡◌, ◌⊎◌, ◌↔◌, ℕ, ◌<◌, ◌≤◌, [], List, length, Option, Some, Contains, IfOk, OnOk, OnErr, IsErr, MatchResult};
 ghost use Rattle.es_outside.specs.Told.{Rose, Takes};
 ghost use Rattle.es_outside.specs.Memory.{Drain, counted, taken, took, took_none};
 
 use crate::Failed;
-use es_types::{Bytes, Items, NoMemory};
+use es_types::{Items, NoMemory};
 use std::alloc::Global;
 use std::marker::Model;
-use std::mem;
 
 /// Where bytes go.
 pub trait Sink {
@@ -22,15 +21,15 @@ pub trait Sink {
         ensures within { IfOk result (λ count. (0 < count) × (count ≤ length piece.now)) }
         ensures bytes { IfOk result (λ count. Takes (written self.old) (written self.new) piece.now count) }
         ensures count { write_faults self.old ≤ write_faults self.new }
+        ensures uncounted { OnOk result (write_faults self.new ≡ write_faults self.old) }
         ensures cause { OnErr result (Rose (write_faults self.old) (write_faults self.new)) }
         ensures same { OnErr result (written self.new ≡ written self.old) };
 }
 
 /// A sink in memory, which takes bytes piece by piece into a room and fails at some calls.
-#[derive(Debug, Drop)]
+#[derive(Drop)]
 pub struct MemSink {
-    alloc: Global,
-    bytes: Bytes,
+    bytes: Vec<u8>,
     room: u64,
     piece: u32,
     failing: Items<u64>,
@@ -39,18 +38,18 @@ pub struct MemSink {
 }
 
 impl Model for MemSink {
-    ghost use Rattle.std.specs.Prelude.{◌≤◌, length};
+    ghost use Rattle.std.specs.Prelude.{◌≤◌, length, vec_capacity};
     ghost use Rattle.es_outside.specs.Memory.{Drain};
 
     ghost Value = { Drain };
 
-    ghost view = { λ s. record { written = s.bytes; room = s.room; piece = s.piece; failing = s.failing; calls = s.calls; faults = s.faults } };
+    ghost view = { λ s. record { written = s.bytes.items; room = s.room; piece = s.piece; failing = s.failing; calls = s.calls; faults = s.faults } };
 
-    ghost invariant = { λ s. (length s.bytes ≤ s.room) × (1 ≤ s.piece) };
+    ghost invariant = { λ s. (length s.bytes.items ≤ s.room) × (s.room ≤ vec_capacity s.bytes) × (1 ≤ s.piece) };
 }
 
 impl MemSink {
-    /// Takes memory for `room` bytes and none later. Takes at most `piece` bytes at a call, and fails at the
+    /// Takes memory for `room` bytes, so that no write wants any. Takes at most `piece` bytes at a call, and fails at the
     /// calls of these numbers, counted from 1, and where no room is left.
     pub fn make(
         alloc: Global,
@@ -62,8 +61,7 @@ impl MemSink {
         ensures { IfOk result (λ s. s ≡ record { written = []; room = room; piece = piece; failing = failing; calls = 0; faults = 0 }) }
     {
         Ok(MemSink {
-            alloc,
-            bytes: Bytes::of(Vec::with_capacity(alloc, room as usize)?),
+            bytes: Vec::with_capacity(alloc, room as usize)?,
             room,
             piece,
             failing,
@@ -73,10 +71,10 @@ impl MemSink {
     }
 
     /// What was written.
-    pub fn bytes(&self) -> &Bytes
+    pub fn bytes(&self) -> &[u8]
         ensures { result.now ≡ self.now.written }
     {
-        &self.bytes
+        self.bytes.as_slice()
     }
 }
 
@@ -90,34 +88,25 @@ impl Sink for MemSink {
         ensures within { IfOk result (λ count. (0 < count) × (count ≤ length piece.now)) }
         ensures bytes { IfOk result (λ count. Takes (Some self.old.written) (Some self.new.written) piece.now count) }
         ensures count { self.old.faults ≤ self.new.faults }
+        ensures uncounted { OnOk result (self.new.faults ≡ self.old.faults) }
         ensures cause { OnErr result (Rose self.old.faults self.new.faults) }
         ensures same { OnErr result (Some self.new.written ≡ Some self.old.written) }
         ensures taken { IfOk result (λ count. count ≡ taken self.old (length piece.now)) }
-        ensures fails { Contains self.old.failing (counted self.old.calls) → IsErr result }
+        ensures fails { IsErr result ↔ (Contains self.old.failing (counted self.old.calls) ⊎ (self.old.room ≤ length self.old.written)) }
         ensures calls { self.new.calls ≡ counted self.old.calls }
         ensures becomes { MatchResult result (λ count. self.new ≡ took self.old piece.now count) (λ _e. self.new ≡ took_none self.old) }
     {
         self.calls = self.calls.saturating_add(1);
-        let left = self.room as usize - self.bytes.as_slice().len();
+        let left = self.room as usize - self.bytes.len();
         let count = (self.piece as usize).min(piece.len()).min(left);
         if self.failing.as_slice().contains(&self.calls) || count == 0 {
             self.faults = self.faults.saturating_add(1);
             return Err(Failed);
         }
-        if append(self.alloc, &mut self.bytes, &piece[..count]).is_err() {
-            self.faults = self.faults.saturating_add(1);
-            return Err(Failed);
+        match self.bytes.extend_from_slice(&piece[..count]) {
+            Ok(()) => Ok(count),
+            // The bytes have room.
+            Err(_) => unreachable!(),
         }
-        Ok(count)
     }
-}
-
-// Puts the bytes at the end. They have room there, so this takes no memory.
-fn append(alloc: Global, bytes: &mut Bytes, piece: &[u8]) -> Result<(), NoMemory>
-    ensures { bytes.new ≡ (if is_ok result then bytes.old ++ piece.now else bytes.old) }
-{
-    let mut inner = mem::replace(bytes, Bytes::of(Vec::new(alloc))).into_inner();
-    let outcome = inner.extend_from_slice(piece);
-    *bytes = Bytes::of(inner);
-    outcome
 }

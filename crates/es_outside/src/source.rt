@@ -1,12 +1,12 @@
-ghost use Rattle.std.specs.Prelude.{◌≡◌, ℕ, ◌<◌, ◌≤◌, ◌↔◌, List, length, take, drop, min, Option, Some, Contains, IfOk, OnErr, IsErr, MatchResult};
+ghost use Rattle.std.specs.Prelude.{◌≡◌, ℕ, ◌<◌, ◌≤◌, ◌↔◌, List, length, take, drop, min, Option, Some, Contains, IfOk, OnOk, OnErr, IsErr, MatchResult};
 ghost use Rattle.es_outside.specs.Told.{Gives, Rose};
 ghost use Rattle.es_outside.specs.Memory.{Feed, counted, gave, gave_none, given};
 
 use es_types::{Bytes, Items};
 use std::marker::Model;
 
-/// A call to the outside failed, and its count of faults rose.
-#[derive(Clone, Copy, Debug, PartialEq, Eq)]
+/// A call to the outside failed, and its count of faults rose. No count rises in a call that answers `Ok`.
+#[derive(Clone, Copy)]
 pub struct Failed;
 
 /// Where bytes come from.
@@ -23,12 +23,13 @@ pub trait Source {
         ensures within { IfOk result (λ count. count ≤ length room.old) }
         ensures bytes { IfOk result (λ count. Gives (left self.old) (left self.new) room.new count) }
         ensures count { read_faults self.old ≤ read_faults self.new }
+        ensures uncounted { OnOk result (read_faults self.new ≡ read_faults self.old) }
         ensures cause { OnErr result (Rose (read_faults self.old) (read_faults self.new)) }
         ensures same { OnErr result (left self.new ≡ left self.old) };
 }
 
 /// A source of bytes in memory, which gives them piece by piece and fails at some calls.
-#[derive(Debug, Drop)]
+#[derive(Drop)]
 pub struct MemSource {
     bytes: Bytes,
     at: usize,
@@ -76,6 +77,7 @@ impl Source for MemSource {
         ensures within { IfOk result (λ count. count ≤ length room.old) }
         ensures bytes { IfOk result (λ count. Gives (Some self.old.left) (Some self.new.left) room.new count) }
         ensures count { self.old.faults ≤ self.new.faults }
+        ensures uncounted { OnOk result (self.new.faults ≡ self.old.faults) }
         ensures cause { OnErr result (Rose self.old.faults self.new.faults) }
         ensures same { OnErr result (Some self.new.left ≡ Some self.old.left) }
         ensures given { IfOk result (λ count. count ≡ given self.old (length room.old)) }

@@ -6,8 +6,6 @@ mod fail;
 mod items;
 mod name;
 mod row;
-#[cfg(test)]
-mod tests;
 mod text;
 mod time;
 

@@ -7,7 +7,7 @@ use std::alloc::Global;
 use std::marker::Model;
 
 /// The id of a document: a text of 1 to 512 bytes.
-#[derive(Debug, Drop)]
+#[derive(Drop)]
 pub struct DocId(Text);
 
 impl Model for DocId {
@@ -51,7 +51,7 @@ fn is_id(text: &str) -> bool
 
 /// The name of an index: 1 to 255 bytes of `a` to `z`, `0` to `9`, `_`, `-` and `.`, of which the first
 /// is a letter or a digit.
-#[derive(Debug, Drop)]
+#[derive(Drop)]
 pub struct IndexName(Text);
 
 impl Model for IndexName {
@@ -109,7 +109,7 @@ fn lower_or_digit(b: u8) -> bool
 }
 
 /// The name of a field: 1 to 255 bytes with no `.`, of which the first is no `_`.
-#[derive(Debug, Drop)]
+#[derive(Drop)]
 pub struct FieldName(Text);
 
 impl Model for FieldName {

@@ -2,7 +2,7 @@ use crate::{Bytes, Copied, DocId, Items, NoMemory, Text};
 use std::alloc::Global;
 
 /// The value of a mapped field in one document.
-#[derive(Debug, Drop)]
+#[derive(Drop)]
 pub enum Value {
     Key(Text),
     Long(i64),
@@ -10,14 +10,14 @@ pub enum Value {
 }
 
 /// A document as it was sent: its text without white space at the ends.
-#[derive(Debug, Drop)]
+#[derive(Drop)]
 pub struct Doc {
     pub source: Bytes,
 }
 
 /// A document as its shard keeps it. `seq` is the number of the operation that put it, from 1, and `values`
 /// has one value for each mapped field.
-#[derive(Debug, Drop)]
+#[derive(Drop)]
 pub struct Row {
     pub seq: u64,
     pub id: DocId,
@@ -26,7 +26,7 @@ pub struct Row {
 }
 
 /// A change to a shard.
-#[derive(Debug, Drop)]
+#[derive(Drop)]
 pub enum Op {
     Put {
         id: DocId,

@@ -1,4 +1,4 @@
-ghost use Rattle.std.specs.Prelude.{◌≡◌, ◌<◌, ◌≤◌, ◌↔◌, IsNone, IfSome};
+ghost use Rattle.std.specs.Prelude.{◌≡◌, ◌<◌, ◌≤◌, ◌↔◌, max, IsNone, IfSome};
 ghost use Rattle.es_types.specs.Name.{last_moment, longest_keep};
 
 use crate::{Copied, NoMemory};
@@ -6,7 +6,7 @@ use std::alloc::Global;
 use std::marker::Model;
 
 /// A moment, in milliseconds since the clock's own beginning: at most 2^53.
-#[derive(Clone, Copy, Debug, PartialEq, Eq, PartialOrd, Ord)]
+#[derive(Clone, Copy)]
 pub struct Moment(u64);
 
 impl Model for Moment {
@@ -47,10 +47,17 @@ impl Moment {
     {
         self.0
     }
+
+    /// The later one of two moments.
+    pub fn later(self, other: Moment) -> Moment
+        ensures { result ≡ max self other }
+    {
+        if self.0 < other.0 { other } else { self }
+    }
 }
 
 /// How long something is kept, in milliseconds: at most ten days.
-#[derive(Clone, Copy, Debug, PartialEq, Eq, PartialOrd, Ord)]
+#[derive(Clone, Copy)]
 pub struct KeepAlive(u64);
 
 impl Model for KeepAlive {

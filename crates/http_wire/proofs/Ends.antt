@@ -5,7 +5,7 @@ use Rattle.std.specs.List.{starts_with}
 use Rattle.std.specs.Cmp.Lexicographic.{pointwise}
 use Rattle.std.proofs.lemmas.Bool.{cases_lt}
 use Rattle.std.proofs.lemmas.Bool.Decides.{Decides-eqb}
-use Rattle.std.proofs.lemmas.List.{take-append-le, take-append-drop, length-take-le, length-take, drop_more, drop_all}
+use Rattle.std.proofs.lemmas.List.{take-append-le, take-append-drop, length-take-le, length-take, drop_more}
 use Rattle.std.proofs.lemmas.Slice.Eq.{starts_is}
 use Rattle.http_wire.specs.Heads.{head_end, head_len}
 
@@ -121,18 +121,6 @@ head_len_skip bytes seen h none =
     let k : seen - 3 ≡ length (take seen bytes) - 3 = omega (arith, long) in
     subst (λ (all : List ℕ). plus (seen - 3) (head_len (drop (seen - 3) all)) ≡ head_len all) split
     (skip_at (take seen bytes) (drop seen bytes) (seen - 3) k none)
-
--- the steps of the search
-pub scan_none : (bytes : List ℕ) (at : ℕ) → length bytes ≤ at → plus at (head_len (drop at bytes)) ≡ None
-scan_none bytes at h = ap (λ (l : List ℕ). plus at (head_len l)) (drop_all at bytes h)
-
-pub scan_found : (bytes : List ℕ) (at : ℕ) → at < length bytes → starts (drop at bytes) ≡ true
-    → plus at (head_len (drop at bytes)) ≡ Some (at + 4)
-scan_found bytes at h e =
-    let split = drop_more bytes at 0 h in
-    let here : starts (get_or bytes at 0 ∷ drop (at + 1) bytes) ≡ true = ap starts (sym split) ∙ e in
-    let four : 4 + at ≡ at + 4 = omega arith in
-    ap (λ (l : List ℕ). plus at (head_len l)) split ∙ ap (λ v. plus at (step (drop (at + 1) bytes) v)) here ∙ ap Some four
 
 pub scan_more : (bytes : List ℕ) (at : ℕ) → at < length bytes → starts (drop at bytes) ≡ false
     → plus at (head_len (drop at bytes)) ≡ plus (at + 1) (head_len (drop (at + 1) bytes))

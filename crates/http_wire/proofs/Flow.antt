@@ -31,15 +31,6 @@ take_add n m xs =
     ∙ take-append-add (take n xs) (drop n xs) m)
     (cases_lt (length xs) n)
 
-pub came_none : (held : Held) (left : Option (List ℕ)) → Came held held left left
-came_none held left =
-    record {
-      taken = [];
-      bytes = sym (append-nil held.bytes);
-      room = omega arith;
-      told = elim left as (λ l. CameFrom l l []) [ None ↦ tt | Some before ↦ (before, refl, refl) ];
-    }
-
 from_trans : (a b c : Option (List ℕ)) (xs ys : List ℕ) → CameFrom a b xs → CameFrom b c ys → CameFrom a c (xs ++ ys)
 from_trans None b c xs ys p q = tt
 from_trans (Some before) None c xs ys p q = let no : ⊥ = cc in absurd no
@@ -191,3 +182,7 @@ wrote_more (Some written) (Some then) after bytes piece at count h t e =
     t ∙ ap Some (ap (λ (l : List ℕ). l ++ take count piece) same
     ∙ append_assoc written (take at bytes) (take count piece)
     ∙ ap (λ (l : List ℕ). written ++ l) (ap (λ (l : List ℕ). take at bytes ++ take count l) e ∙ sym (take_add at count bytes)))
+
+-- a count that didn't rise stands as it was
+pub unchanged : (old new : ℕ) → old ≤ new → (old < new → ⊥) → new ≡ old
+unchanged old new grows none = ⊎_elim (λ (h : old < new). absurd (none h)) (λ (h : new ≤ old). omega arith) (cases_lt old new)

@@ -3,7 +3,7 @@ use Rattle.std.proofs.Common.{◌≡◌, ℕ, ◌+◌, ◌-◌, ◌*◌, ◌<◌
 use Rattle.std.specs.Char.{digit_value, is_ascii_digit}
 use Rattle.std.specs.List.{list_all, list_any, position_or_len}
 use Rattle.std.specs.Str.Parse.{digits_value, digits_value_after}
-use Rattle.std.proofs.lemmas.Bool.{and_left, and_right, cond-false, cond-true, lt-leb, lt-ltb, le-ltb, leb-true, and_parts}
+use Rattle.std.proofs.lemmas.Bool.{and_right, cond-false, cond-true, lt-leb, lt-ltb, le-ltb, leb-true, and_parts}
 use Rattle.std.proofs.lemmas.List.{drop_more}
 use Rattle.http_wire.specs.Heads.{body_limit, length_of, number_of}
 
@@ -21,10 +21,6 @@ low digits = leb (digits_value 10 digits) body_limit
 
 no_number : (digits : List ℕ) → (some digits && (few digits && (all digits && low digits))) ≡ false → number_of digits ≡ None
 no_number digits h = cond-false (some digits && (few digits && (all digits && low digits))) (Some (digits_value 10 digits)) None h
-
-pub number_bad : (digits : List ℕ) → list_all is_ascii_digit digits ≡ false → number_of digits ≡ None
-number_bad digits h =
-    no_number digits (and_right (some digits) (few digits && (all digits && low digits)) (and_right (few digits) (all digits && low digits) (and_left (all digits) (low digits) h)))
 
 pub number_big : (digits : List ℕ) → body_limit < digits_value 10 digits → number_of digits ≡ None
 number_big digits h =
@@ -50,14 +46,6 @@ found_in None lines = length_of lines
 found_in (Some n) [] = Some n
 found_in (Some n) (line ∷ lines) = None
 
-pub found_first : (n : ℕ) (line : List ℕ × List ℕ) (lines : List (List ℕ × List ℕ)) → number_of line.1 ≡ Some n → found_in (Some n) lines ≡ length_of (line ∷ lines)
-found_first n line [] h = sym h
-found_first n line (other ∷ lines) h = refl
-
-pub found_bad : (line : List ℕ × List ℕ) (lines : List (List ℕ × List ℕ)) → number_of line.1 ≡ None → length_of (line ∷ lines) ≡ None
-found_bad line [] h = h
-found_bad line (other ∷ lines) h = refl
-
 -- a length is within the limit
 number_small : (digits : List ℕ) (n : ℕ) → number_of digits ≡ Some n → n ≤ body_limit
 number_small digits n h =
@@ -75,11 +63,6 @@ number_small digits n h =
           omega (arith, d, same)
       | false ↦ λ e. let is : ◌≡◌ {A = Option ℕ} None (Some n) = picked false e in let no : ⊥ = cc in absurd no
     ] refl
-
-pub length_small : (lines : List (List ℕ × List ℕ)) (n : ℕ) → length_of lines ≡ Some n → n ≤ body_limit
-length_small [] n h = let z : 0 ≡ n = cc in omega (arith, z)
-length_small (line ∷ []) n h = number_small line.1 n h
-length_small (line ∷ other ∷ lines) n h = let no : ⊥ = cc in absurd no
 
 -- no mark is found where the place of the first is the end
 pub no_mark : {X : Type 0} (test : X → Bool) (xs : List X) → position_or_len test xs ≡ length xs → list_any test xs ≡ false

@@ -51,14 +51,14 @@ abbrev pub NextOf : Held → Held → Option (List ℕ) → Option (List ℕ) �
 NextOf old new None left result = Unit {0}
 NextOf old new (Some before) left result = Next old new before left result
 
--- what was written: all of the bytes, or at a fault some first ones
+-- what was written: all of the bytes, or at a fault some first ones, and not all
 abbrev pub Wrote : Option (List ℕ) → Option (List ℕ) → List ℕ → Type 0
 Wrote None after bytes = Unit {0}
 Wrote (Some written) after bytes = after ≡ Some (written ++ bytes)
 
 abbrev pub WroteSome : Option (List ℕ) → Option (List ℕ) → List ℕ → Type 0
 WroteSome None after bytes = Unit {0}
-WroteSome (Some written) after bytes = (count : ℕ) × (count ≤ length bytes) × (after ≡ Some (written ++ take count bytes))
+WroteSome (Some written) after bytes = (count : ℕ) × (count < length bytes) × (after ≡ Some (written ++ take count bytes))
 
 -- how many bytes are held and may be taken: each request makes them fewer
 abbrev pub size : Held → ℕ

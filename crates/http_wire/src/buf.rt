@@ -1,4 +1,4 @@
-ghost use Rattle.std.specs.Prelude.{◌≡◌, ◌+◌, ◌-◌, ◌<◌, ◌≤◌, [], length, take, drop, IfOk, IfSome, IfNone, OnErr};
+ghost use Rattle.std.specs.Prelude.{◌≡◌, ◌+◌, ◌-◌, ◌<◌, ◌≤◌, [], length, take, drop, IfOk, IfSome, IfNone, OnOk, OnErr};
 ghost use Rattle.http_wire.specs.Requests.{connection_limit};
 ghost use Rattle.http_wire.specs.Steps.{Probed, ReadMore};
 ghost use Rattle.es_outside.specs.Told.{Gives, Rose};
@@ -73,6 +73,7 @@ impl Buf {
 pub(crate) fn read_more<L: Link>(link: &mut L, buf: &mut Buf) -> Result<bool, WireEnd>
     ensures read { ReadMore buf.old buf.new (L.left link.old) (L.left link.new) result }
     ensures fault { result ≡ Err WireEnd.ReadFault → Rose (L.read_faults link.old) (L.read_faults link.new) }
+    ensures reported { L.read_faults link.old < L.read_faults link.new → result ≡ Err WireEnd.ReadFault }
     ensures count { L.read_faults link.old ≤ L.read_faults link.new }
     ensures written { L.written link.new ≡ L.written link.old }
     ensures write_faults { L.write_faults link.new ≡ L.write_faults link.old }
@@ -101,6 +102,7 @@ pub(crate) fn read_more<L: Link>(link: &mut L, buf: &mut Buf) -> Result<bool, Wi
 fn probe<L: Link>(link: &mut L) -> Result<bool, WireEnd>
     ensures read { Probed (L.left link.old) (L.left link.new) result }
     ensures fault { result ≡ Err WireEnd.ReadFault → Rose (L.read_faults link.old) (L.read_faults link.new) }
+    ensures reported { L.read_faults link.old < L.read_faults link.new → result ≡ Err WireEnd.ReadFault }
     ensures count { L.read_faults link.old ≤ L.read_faults link.new }
     ensures written { L.written link.new ≡ L.written link.old }
     ensures write_faults { L.write_faults link.new ≡ L.write_faults link.old }
@@ -152,6 +154,7 @@ fn read_behind<L: Link>(
     ensures front { take at bytes.new ≡ take at bytes.old }
     ensures bytes { IfOk result (λ count. Gives (L.left link.old) (L.left link.new) (drop at bytes.new) count) }
     ensures cause { OnErr result (Rose (L.read_faults link.old) (L.read_faults link.new)) }
+    ensures uncounted { OnOk result (L.read_faults link.new ≡ L.read_faults link.old) }
     ensures same { OnErr result (L.left link.new ≡ L.left link.old) }
     ensures count { L.read_faults link.old ≤ L.read_faults link.new }
     ensures written { L.written link.new ≡ L.written link.old }

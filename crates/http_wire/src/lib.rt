@@ -8,8 +8,6 @@ mod head;
 mod laws;
 mod make;
 mod request;
-#[cfg(test)]
-mod tests;
 mod wire;
 
 pub use buf::Buf;

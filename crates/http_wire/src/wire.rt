@@ -14,7 +14,7 @@ use es_outside::Link;
 use std::alloc::Global;
 
 /// Why a connection gave no further request. `NotBuilt` is a head that is not taken yet.
-#[derive(Clone, Copy, Debug, PartialEq, Eq)]
+#[derive(Clone, Copy, PartialEq, Eq)]
 pub enum WireEnd {
     Truncated,
     NotBuilt,
@@ -24,7 +24,7 @@ pub enum WireEnd {
 }
 
 /// Takes the next request from the link. `None` is the end of input before a byte of it. The body is read in time
-/// linear in its length. After an end the buffer isn't used again.
+/// linear in its length, and nothing is read behind a whole request. After an end the buffer isn't used again.
 pub fn next_request<L: Link>(
     alloc: Global,
     link: &mut L,
@@ -34,6 +34,7 @@ pub fn next_request<L: Link>(
     ensures next { NextOf buf.old buf.new (L.left link.old) (L.left link.new) result }
     ensures smaller { IfOk result (λ next. IfSome next (λ _. size buf.new < size buf.old)) }
     ensures fault { result ≡ Err WireEnd.ReadFault → Rose (L.read_faults link.old) (L.read_faults link.new) }
+    ensures reported { L.read_faults link.old < L.read_faults link.new → result ≡ Err WireEnd.ReadFault }
     ensures count { L.read_faults link.old ≤ L.read_faults link.new }
     ensures written { L.written link.new ≡ L.written link.old }
     ensures write_faults { L.write_faults link.new ≡ L.write_faults link.old }
@@ -64,6 +65,7 @@ pub fn next_request<L: Link>(
 fn read_head<L: Link>(link: &mut L, buf: &mut Buf) -> Result<Option<usize>, WireEnd>
     ensures came { HeadCame buf.old buf.new (L.left link.old) (L.left link.new) result }
     ensures fault { result ≡ Err WireEnd.ReadFault → Rose (L.read_faults link.old) (L.read_faults link.new) }
+    ensures reported { L.read_faults link.old < L.read_faults link.new → result ≡ Err WireEnd.ReadFault }
     ensures count { L.read_faults link.old ≤ L.read_faults link.new }
     ensures written { L.written link.new ≡ L.written link.old }
     ensures write_faults { L.write_faults link.new ≡ L.write_faults link.old }
@@ -94,6 +96,7 @@ fn read_body<L: Link>(link: &mut L, buf: &mut Buf, long: usize) -> Result<(), Wi
     requires short { IsShort buf.old.bytes long }
     ensures came { BodyCame buf.old buf.new (L.left link.old) (L.left link.new) long result }
     ensures fault { result ≡ Err WireEnd.ReadFault → Rose (L.read_faults link.old) (L.read_faults link.new) }
+    ensures reported { L.read_faults link.old < L.read_faults link.new → result ≡ Err WireEnd.ReadFault }
     ensures count { L.read_faults link.old ≤ L.read_faults link.new }
     ensures written { L.written link.new ≡ L.written link.old }
     ensures write_faults { L.write_faults link.new ≡ L.write_faults link.old }
@@ -126,14 +129,15 @@ fn cut(alloc: Global, held: &[u8], long: usize, head: &Parsed) -> Option<Request
 }
 
 /// A write failed.
-#[derive(Clone, Copy, Debug, PartialEq, Eq)]
+#[derive(Clone, Copy)]
 pub struct WriteFault;
 
-/// Writes all of the bytes, or some first ones where a write fails.
+/// Writes all of the bytes, or some first ones, and not all, where a write fails.
 pub fn write_all<L: Link>(link: &mut L, bytes: &[u8]) -> Result<(), WriteFault>
     ensures ok { OnOk result (Wrote (L.written link.old) (L.written link.new) bytes.now) }
     ensures err { OnErr result (WroteSome (L.written link.old) (L.written link.new) bytes.now) }
     ensures fault { OnErr result (Rose (L.write_faults link.old) (L.write_faults link.new)) }
+    ensures uncounted { OnOk result (L.write_faults link.new ≡ L.write_faults link.old) }
     ensures count { L.write_faults link.old ≤ L.write_faults link.new }
     ensures left { L.left link.new ≡ L.left link.old }
     ensures read_faults { L.read_faults link.new ≡ L.read_faults link.old }

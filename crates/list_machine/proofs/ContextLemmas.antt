@@ -1,5 +1,5 @@
 -- The contexts: the one of a number, and a new one.
-use Rattle.std.proofs.Common.{◌≡◌, ◌≢◌, ℕ, ◌+◌, ◌<◌, ◌≤◌, Bool, true, false, cond, eqb, leb, List, [], ◌∷◌, ◌++◌, Option, Some, refl, sym, ap, ◌∙◌, arith}
+use Rattle.std.proofs.Common.{◌≡◌, ◌≢◌, ℕ, ◌<◌, ◌≤◌, Bool, true, false, cond, eqb, leb, List, [], ◌∷◌, Option, Some, refl, sym, ap, ◌∙◌, arith}
 use Rattle.std.specs.List.{find}
 use Rattle.std.specs.Option.{option_map}
 use Rattle.list_machine.specs.declared.event.Reply.{Reply}
@@ -7,10 +7,11 @@ use Rattle.list_machine.specs.declared.event.Reply.TheVariants.{Found, Missing, 
 use Rattle.list_machine.specs.declared.search.Answer.{Answer}
 use Rattle.list_machine.specs.declared.search.SearchRequest.{SearchRequest}
 use Rattle.list_machine.specs.declared.store.ContextStore.{ContextStore}
-use Rattle.list_machine.specs.State.{Index, State, context_of, live_contexts, view_of}
+use Rattle.list_machine.specs.State.{Index, State, context_of, live_contexts}
 use Rattle.list_machine.specs.Step.{open_pit, search_pit}
 use Rattle.list_machine.specs.Stores.{context_seen, contexts_seen}
 use Rattle.list_machine.specs.Views.{answer}
+use Rattle.list_machine.proofs.Moves.{opened}
 
 context_of-seen : (number : ℕ) (stores : List ContextStore)
     → context_of number (contexts_seen stores) ≡ option_map context_seen (find (λ (context : ContextStore). eqb context.number number) stores)
@@ -41,13 +42,6 @@ search_misses seen context request late =
     let chosen : Bool → State × Reply = λ b. cond b (seen, Found (answer (context_seen context).view request 0)) (seen, Missing) in
     let ends : leb seen.moment context.expiry ≡ false = grind arith in
     ap chosen ends
-
--- the state with one context more
-abbrev pub opened : State → ℕ → Index → State
-opened seen keep index = record seen {
-  next = seen.next + 1;
-  contexts = seen.contexts ++ record { number = seen.next; view = view_of index; expiry = seen.moment + keep } ∷ [];
-}
 
 pub open_full : (seen : State) (keep : ℕ) (index : Index) → live_contexts seen ≡ seen.limits.pits
     → open_pit seen keep (Some index) ≡ (seen, TooMany seen.limits.pits)

@@ -1,5 +1,5 @@
 -- A context is found by its number from its opening on, and by no search before.
-use Rattle.std.proofs.Common.{◌≡◌, ℕ, ◌+◌, ◌<◌, ◌≤◌, ◌==◌, Bool, true, false, cond, inl, inr, List, [], ◌∷◌, ◌++◌, length, Option, Some, None, All, refl, sym, ap, ap₂, ◌∙◌, arith, append-nil, append_assoc, eq-eqb, ne_eqb}
+use Rattle.std.proofs.Common.{◌≡◌, ℕ, ◌+◌, ◌<◌, ◌≤◌, ◌==◌, Bool, true, false, cond, List, [], ◌∷◌, ◌++◌, length, Option, Some, None, All, refl, sym, ap, ap₂, ◌∙◌, arith, eq-eqb, ne_eqb}
 use Rattle.std.specs.Option.{option_or}
 use Rattle.std.proofs.lemmas.Bool.{cond-true, cond-false}
 use Rattle.std.proofs.lemmas.List.Elements.{All-head, All-tail}
@@ -9,44 +9,10 @@ use Rattle.list_machine.specs.declared.event.Reply.TheVariants.{Opened, Found, T
 use Rattle.list_machine.specs.declared.search.SearchRequest.{SearchRequest}
 use Rattle.list_machine.specs.declared.search.Answer.{Answer}
 use Rattle.list_machine.specs.Views.{answer}
-use Rattle.list_machine.specs.State.{State, Index, Context, IsSound, context_of, is_live, view_of}
-use Rattle.list_machine.specs.Step.{search_pit, step}
-use Rattle.list_machine.specs.Run.{History, run}
-use Rattle.list_machine.proofs.Moves.{Moves, opened}
-use Rattle.list_machine.proofs.Sound.{entry_moves}
-
--- contexts are only added, and the next number never falls
-pub record Later (old new : State) : Type 0 where
-  pub more : List Context
-  pub contexts : new.contexts ≡ old.contexts ++ more
-  pub next : old.next ≤ new.next
-
--- a move goes on
-moves_later : (old new : State) → Moves (λ _. Unit {0}) old new → Later old new
-moves_later old new (inl m) = record { more = []; contexts = m.contexts ∙ sym (append-nil old.contexts); next = omega (arith, m.next) }
-moves_later old new (inr (inl m)) = record { more = []; contexts = m.contexts ∙ sym (append-nil old.contexts); next = omega (arith, m.next) }
-moves_later old new (inr (inr m)) =
-    record { more = record { number = old.next; view = view_of m.index; expiry = m.expiry } ∷ []; contexts = m.contexts; next = omega (arith, m.next) }
-
--- one after the other
-later_on : (a b c : State) → Later a b → Later b c → Later a c
-later_on a b c p q =
-    record {
-      more = p.more ++ q.more;
-      contexts = q.contexts ∙ ap (λ l. l ++ q.more) p.contexts ∙ append_assoc a.contexts p.more q.more;
-      next = omega (arith, p.next, q.next);
-    }
-
--- a run goes on
-pub run_later : (history : History) (state : State) → Later state (run state history)
-run_later [] state = record { more = []; contexts = sym (append-nil state.contexts); next = omega arith }
-run_later (entry ∷ history) state =
-    later_on state (step state entry).0 (run (step state entry).0 history) (moves_later state (step state entry).0 (entry_moves state entry)) (run_later history (step state entry).0)
-
--- a run in two parts
-pub run-append : (first second : History) (state : State) → run state (first ++ second) ≡ run (run state first) second
-run-append [] second state = refl
-run-append (entry ∷ first) second state = run-append first second (step state entry).0
+use Rattle.list_machine.specs.State.{State, Index, Context, context_of, is_live, view_of}
+use Rattle.list_machine.specs.Step.{search_pit}
+use Rattle.list_machine.proofs.Moves.{opened}
+use Rattle.list_machine.proofs.Runs.{Later}
 
 -- what is found stays found
 pub found_later : (old new : State) (number : ℕ) (context : Context) → Later old new → context_of number old.contexts ≡ Some context → context_of number new.contexts ≡ Some context
@@ -56,16 +22,12 @@ found_later old new number context later e =
     ∙ ap (λ o. option_or o (context_of number later.more)) e
 
 -- no context has a number that is above all
-none_above : (contexts : List Context) (next number : ℕ) → next ≤ number → All (λ (context : Context). context.number < next) contexts → context_of number contexts ≡ None
+pub none_above : (contexts : List Context) (next number : ℕ) → next ≤ number → All (λ (context : Context). context.number < next) contexts → context_of number contexts ≡ None
 none_above [] next number l all = refl
 none_above (context ∷ contexts) next number l all =
     let head = All-head (λ (context : Context). context.number < next) context contexts all in
     cond-false (context.number == number) (Some context) (context_of number contexts) (ne_eqb context.number number (λ e. omega (arith, head)))
     ∙ none_above contexts next number l (All-tail (λ (context : Context). context.number < next) context contexts all)
-
--- a state that never issued a number has no context of it
-pub none_yet : (state : State) (number : ℕ) → IsSound state → state.next ≤ number → context_of number state.contexts ≡ None
-none_yet state number h l = none_above state.contexts state.next number l h.issued
 
 -- the two outcomes of an opening
 pub opening_cases : (full : Bool) (state : State) (keep : ℕ) (index : Index) (number : ℕ) (r : State × Reply) → r ≡ cond full (state, TooMany state.limits.pits) (opened state keep index, Opened state.next) → r.1 ≡ Opened number → (state.next ≡ number) × (r.0 ≡ opened state keep index)
@@ -76,11 +38,11 @@ opening_cases false state keep index number r e o =
     (same, ap (λ (r : State × Reply). r.0) e)
 
 -- the context of the next number is found behind the others
-pub found_next : (state : State) (keep : ℕ) (index : Index) → IsSound state → context_of state.next (opened state keep index).contexts ≡ Some (record { number = state.next; view = view_of index; expiry = state.moment + keep })
+pub found_next : (state : State) (keep : ℕ) (index : Index) → All (λ (context : Context). context.number < state.next) state.contexts → context_of state.next (opened state keep index).contexts ≡ Some (record { number = state.next; view = view_of index; expiry = state.moment + keep })
 found_next state keep index h =
     let new : Context = record { number = state.next; view = view_of index; expiry = state.moment + keep } in
     find-append (λ (context : Context). context.number == state.next) state.contexts (new ∷ [])
-    ∙ ap (λ o. option_or o (context_of state.next (new ∷ []))) (none_yet state state.next h (omega arith))
+    ∙ ap (λ o. option_or o (context_of state.next (new ∷ []))) (none_above state.contexts state.next state.next (omega arith) h)
     ∙ cond-true (state.next == state.next) (Some new) None (eq-eqb state.next state.next refl)
 
 -- what a found answer is of

@@ -6,6 +6,7 @@ pub mod CountLemmas
 pub mod ShardLemmas
 pub mod Moves
 pub mod Sound
+pub mod Runs
 pub mod Contexts
 pub mod PlacesInOrder
 pub mod Turns

@@ -97,7 +97,7 @@ published shard upto = record {
 }
 
 -- what holds of the shard and of the published one
-publish_case : (P : Shard → Type 0) (shard : Shard) (upto : ℕ) → P shard → (shard.base < upto → P (published shard upto)) → P (publish shard upto)
+pub publish_case : (P : Shard → Type 0) (shard : Shard) (upto : ℕ) → P shard → (shard.base < upto → P (published shard upto)) → P (publish shard upto)
 publish_case P shard upto h next =
     cond_both (leb upto shard.base) shard (published shard upto) P (λ _. h) (λ e. next (leb-false upto shard.base e))
 

@@ -1,7 +1,9 @@
 -- Each state that the machine comes to is sound.
-use Rattle.std.proofs.Common.{◌≡◌, ℕ, ◌+◌, ◌<◌, inl, inr, List, [], ◌∷◌, ◌++◌, length, map, Some, slice_get, slice_set, All, AllPairs, bytes_eq, refl, sym, ◌∙◌, subst, subst₂, arith, length-set}
-use Rattle.std.proofs.lemmas.List.Elements.{All-nil, All-cons, All-head, All-tail, All-set, All-push, All-weaker, All-map}
+use Rattle.std.proofs.Common.{◌≡◌, ℕ, ◌+◌, ◌<◌, ◌≤◌, cond, inl, inr, List, [], ◌∷◌, ◌++◌, length, map, All, AllPairs, bytes_eq, count_by, refl, sym, ap, ◌∙◌, subst, subst₂, arith, length-set}
+use Rattle.std.proofs.lemmas.List.Elements.{All-nil, All-cons, All-head, All-tail, All-push, All-weaker, All-map}
 use Rattle.std.proofs.lemmas.List.Quantifiers.{all_pairs_push}
+use Rattle.std.proofs.lemmas.List.Sums.{sum_by-le-sum_by, sum_by_push}
+use Rattle.std.proofs.lemmas.Bool.Decides.{nat_tests}
 use Rattle.es_types.specs.declared.row.Op.{Op}
 use Rattle.list_machine.specs.declared.event.Entry.{Entry}
 use Rattle.list_machine.specs.declared.event.Limits.{Limits}
@@ -10,25 +12,11 @@ use Rattle.list_machine.specs.declared.event.Event.TheVariants.{Write, Seal, Pub
 use Rattle.list_machine.specs.declared.event.Change.TheVariants.{Put, Remove}
 use Rattle.list_machine.specs.Rows.{Shard}
 use Rattle.list_machine.specs.Objects.{AreObjects, PutsObjectOp}
-use Rattle.list_machine.specs.State.{State, Index, Context, IsSoundShard, IsSound, HasObjects, empty_shard, docs, start, view_of}
+use Rattle.list_machine.specs.State.{State, Index, Context, IsSoundShard, IsSound, HasObjects, empty_shard, docs, start, view_of, is_live, live_contexts}
 use Rattle.list_machine.specs.Step.{step}
 use Rattle.list_machine.specs.Run.{History, run, state_of, PutsObject}
 use Rattle.list_machine.proofs.ShardLemmas.{publish_sound, append_sound, publish_objects}
-use Rattle.list_machine.proofs.Moves.{find_All, slice_get_All, put_index_All, Changed, Moves, OfEvent, step_moves}
-
--- what a change of a shard keeps of an index, a move keeps of all indexes
-moves_indexes : (Q : Op → Type 0) (P : Index → Type 0) → ((index : Index) (at : ℕ) (shard changed : Shard) → slice_get index.shards at ≡ Some shard → Changed Q shard changed → P index → P (record index { shards = slice_set index.shards at changed })) → (old new : State) → Moves Q old new → All P old.indexes → All P new.indexes
-moves_indexes Q P keeps old new (inl m) all = subst (All P) (sym m.indexes) all
-moves_indexes Q P keeps old new (inr (inl m)) all =
-    let was : P m.index = find_All P (λ (index : Index). bytes_eq index.name m.name) old.indexes m.index all m.there in
-    subst (All P) (sym m.indexes) (put_index_All P (record m.index { shards = slice_set m.index.shards m.at m.changed }) old.indexes (keeps m.index m.at m.shard m.changed m.has m.changes was) all)
-moves_indexes Q P keeps old new (inr (inr m)) all = subst (All P) (sym m.indexes) all
-
--- what a change keeps of a shard, a move keeps of all shards
-moves_shards : (Q : Op → Type 0) (P : Shard → Type 0) → ((old new : Shard) → Changed Q old new → P old → P new) → (old new : State) → Moves Q old new → All (λ (index : Index). All P index.shards) old.indexes → All (λ (index : Index). All P index.shards) new.indexes
-moves_shards Q P keeps =
-    moves_indexes Q (λ (index : Index). All P index.shards)
-    (λ index at shard changed has changes all. All-set P index.shards at changed (keeps shard changed changes (slice_get_All P index.shards at shard all has)) all)
+use Rattle.list_machine.proofs.Moves.{find_All, Changed, Keeps, Moves, OfEvent, step_moves, entry_moves, moves_indexes, moves_shards}
 
 -- a changed shard is sound
 changed_sound : (Q : Op → Type 0) (old new : Shard) → Changed Q old new → IsSoundShard old → IsSoundShard new
@@ -50,34 +38,47 @@ push_context contexts next context e h =
 
 -- a move keeps the contexts sound
 moves_contexts : (Q : Op → Type 0) (old new : State) → Moves Q old new → SoundContexts old.contexts old.next → SoundContexts new.contexts new.next
-moves_contexts Q old new (inl m) h = subst₂ SoundContexts (sym m.contexts) (sym m.next) h
-moves_contexts Q old new (inr (inl m)) h = subst₂ SoundContexts (sym m.contexts) (sym m.next) h
-moves_contexts Q old new (inr (inr m)) h =
+moves_contexts Q old new (_, inl m) h = subst₂ SoundContexts (sym m.contexts) (sym m.next) h
+moves_contexts Q old new (_, inr (inl m)) h = subst₂ SoundContexts (sym m.contexts) (sym m.next) h
+moves_contexts Q old new (_, inr (inr m)) h =
     subst₂ SoundContexts (sym m.contexts) (sym m.next) (push_context old.contexts old.next (record { number = old.next; view = view_of m.index; expiry = m.expiry }) refl h)
+
+-- as time goes on, fewer are live
+live_later : (contexts : List Context) (early late : ℕ) → early ≤ late → count_by (is_live late) contexts ≤ count_by (is_live early) contexts
+live_later contexts early late l =
+    sum_by-le-sum_by (λ (context : Context). cond (is_live late context) 1 0) (λ (context : Context). cond (is_live early context) 1 0) contexts
+    (λ context. grind (arith, nat_tests))
+
+-- one more context is at most one more that is live
+live_push : (moment : ℕ) (contexts : List Context) (context : Context) → count_by (is_live moment) (contexts ++ context ∷ []) ≤ count_by (is_live moment) contexts + 1
+live_push moment contexts context =
+    rw (sum_by_push (λ (context : Context). cond (is_live moment context) 1 0) contexts context) (grind (arith, nat_tests))
+
+-- no more are live than may be, of the contexts that were there before a move
+live_before : (old new : State) → Keeps old new → live_contexts old ≤ old.limits.pits → count_by (is_live new.moment) old.contexts ≤ new.limits.pits
+live_before old new k h =
+    omega (arith, live_later old.contexts old.moment new.moment k.moment, h, ap (λ (limits : Limits). limits.pits) k.limits)
+
+-- no more are live than may be, once a move was made
+moves_limited : (Q : Op → Type 0) (old new : State) → Moves Q old new → live_contexts old ≤ old.limits.pits → live_contexts new ≤ new.limits.pits
+moves_limited Q old new (k, inl m) h = subst (λ contexts. count_by (is_live new.moment) contexts ≤ new.limits.pits) (sym m.contexts) (live_before old new k h)
+moves_limited Q old new (k, inr (inl m)) h = subst (λ contexts. count_by (is_live new.moment) contexts ≤ new.limits.pits) (sym m.contexts) (live_before old new k h)
+moves_limited Q old new (k, inr (inr m)) h =
+    let context : Context = record { number = old.next; view = view_of m.index; expiry = m.expiry } in
+    subst (λ contexts. count_by (is_live new.moment) contexts ≤ new.limits.pits) (sym m.contexts)
+    (omega (arith, live_before old new k h, live_push new.moment old.contexts context, m.room, ap (λ (limits : Limits). limits.pits) k.limits))
 
 -- a move keeps a state sound
 moves_sound : (Q : Op → Type 0) (old new : State) → Moves Q old new → IsSound old → IsSound new
 moves_sound Q old new m h =
     let contexts = moves_contexts Q old new m (record { issued = h.issued; numbers_differ = h.numbers_differ }) in
     record {
-      shards = moves_shards Q IsSoundShard (changed_sound Q) old new m h.shards;
-      one_shard = moves_indexes Q (λ (index : Index). length index.shards ≡ 1) (λ index at shard changed has changes one. length-set index.shards at changed ∙ one) old new m h.one_shard;
+      shards = moves_shards Q IsSoundShard IsSoundShard (λ shard sound. sound) (changed_sound Q) old new m h.shards;
+      one_shard = moves_indexes Q (λ (index : Index). length index.shards ≡ 1) (λ (index : Index). length index.shards ≡ 1) (λ index one. one) (λ index at shard changed has changes one. length-set index.shards at changed ∙ one) old new m h.one_shard;
       issued = contexts.issued;
       numbers_differ = contexts.numbers_differ;
+      limited = moves_limited Q old new m h.limited;
     }
-
--- nothing is asked of an event's operation
-any_event : (event : Event) → OfEvent (λ _. Unit {0}) event
-any_event (Write index id change) = tt
-any_event (Seal index) = tt
-any_event (Publish index shard upto) = tt
-any_event (OpenPit index keep) = tt
-any_event (Search target request) = tt
-any_event Quiet = tt
-
--- a step moves
-pub entry_moves : (state : State) (entry : Entry) → Moves (λ _. Unit {0}) state (step state entry).0
-entry_moves state entry = step_moves (λ _. Unit {0}) state entry (any_event entry.event)
 
 -- a step keeps a state sound
 pub step_sound : (state : State) (entry : Entry) → IsSound state → IsSound (step state entry).0
@@ -106,6 +107,7 @@ start_sound limits =
       one_shard = All-cons (λ (index : Index). length index.shards ≡ 1) index [] refl (All-nil (λ (index : Index). length index.shards ≡ 1));
       issued = λ k d l. absurd (omega arith);
       numbers_differ = λ i j d a b. absurd (omega arith);
+      limited = omega arith;
     }
 
 -- each state that the machine comes to is sound
@@ -134,9 +136,9 @@ view_objects shards h =
 
 -- a move keeps views of objects
 moves_views : (old new : State) → Moves PutsObjectOp old new → Objects old → All (λ (context : Context). All AreObjects context.view.shards) new.contexts
-moves_views old new (inl m) h = subst (All (λ (context : Context). All AreObjects context.view.shards)) (sym m.contexts) h.views
-moves_views old new (inr (inl m)) h = subst (All (λ (context : Context). All AreObjects context.view.shards)) (sym m.contexts) h.views
-moves_views old new (inr (inr m)) h =
+moves_views old new (_, inl m) h = subst (All (λ (context : Context). All AreObjects context.view.shards)) (sym m.contexts) h.views
+moves_views old new (_, inr (inl m)) h = subst (All (λ (context : Context). All AreObjects context.view.shards)) (sym m.contexts) h.views
+moves_views old new (_, inr (inr m)) h =
     let was : All HasShardObjects m.index.shards = find_All (λ (index : Index). All HasShardObjects index.shards) (λ (index : Index). bytes_eq index.name m.name) old.indexes m.index h.shards m.there in
     subst (All (λ (context : Context). All AreObjects context.view.shards)) (sym m.contexts)
     (All-push (λ (context : Context). All AreObjects context.view.shards) old.contexts (record { number = old.next; view = view_of m.index; expiry = m.expiry }) h.views (view_objects m.index.shards was))
@@ -156,7 +158,7 @@ step_objects : (state : State) (entry : Entry) → PutsObject entry.event → Ob
 step_objects state entry o h =
     let m = step_moves PutsObjectOp state entry (event_puts entry.event o) in
     record {
-      shards = moves_shards PutsObjectOp HasShardObjects changed_objects state (step state entry).0 m h.shards;
+      shards = moves_shards PutsObjectOp HasShardObjects HasShardObjects (λ shard has. has) changed_objects state (step state entry).0 m h.shards;
       views = moves_views state (step state entry).0 m h;
     }
 

@@ -12,18 +12,15 @@ use Rattle.list_machine.specs.declared.search.SearchRequest.{SearchRequest}
 use Rattle.list_machine.specs.declared.search.Hit.{Hit}
 use Rattle.list_machine.specs.Rows.{Shard}
 use Rattle.list_machine.specs.Views.{View, Place, places_from, is_beyond, hit, answer}
-use Rattle.list_machine.specs.State.{State, Index, Context, IsSoundShard, IsSound, context_of, view_of}
+use Rattle.list_machine.specs.State.{State, Index, Context, IsSoundShard, context_of, view_of}
 use Rattle.list_machine.specs.Step.{open_pit, happen, at_moment, step}
 use Rattle.list_machine.specs.Run.{History, run, state_of}
 use Rattle.list_machine.specs.Pages.{Turn, Opens, EndsAt, GoesOn, InTurn, hits_of, EndsShort, Enumerates}
 use Rattle.list_machine.proofs.Moves.{find_All, opened}
 use Rattle.list_machine.proofs.Sound.{state_sound}
-use Rattle.list_machine.proofs.Contexts.{run_later, run-append, found_later, none_yet, opening_cases, found_next, search_cases, cut_twice}
+use Rattle.list_machine.proofs.Runs.{run_later, run-append}
+use Rattle.list_machine.proofs.Contexts.{found_later, none_above, opening_cases, found_next, search_cases, cut_twice}
 use Rattle.list_machine.proofs.PlacesInOrder.{Rising, rising_places, beyond_place, beyond_nothing}
-
--- the moment is no part of what is sound
-moment_sound : (state : State) (moment : ℕ) → IsSound state → IsSound (at_moment state moment)
-moment_sound state moment h = record { shards = h.shards; one_shard = h.one_shard; issued = h.issued; numbers_differ = h.numbers_differ }
 
 -- what an opening does: its number is the next one, and its context is found by it, with the view
 opens_is : (limits : Limits) (history : History) (number : ℕ) (view : View) (o : Opens limits history number view) → ((state_of limits o.before).next ≡ number) × ((context : Context) × (context_of number (step (state_of limits o.before) o.entry).0.contexts ≡ Some context) × (context.view ≡ view))
@@ -31,12 +28,11 @@ opens_is limits history number view o =
     let state : State = at_moment (state_of limits o.before) o.entry.moment in
     let is : step (state_of limits o.before) o.entry ≡ open_pit state o.keep (Some o.found) = ap (happen state) o.opens ∙ ap (open_pit state o.keep) o.there in
     let did = opening_cases _ state o.keep o.found number (step (state_of limits o.before) o.entry) is o.opened in
-    let context : Context = record { number = state.next; view = view_of o.found; expiry = state.moment + o.keep } in
-    let sound = moment_sound (state_of limits o.before) o.entry.moment (state_sound limits o.before) in (
+    let context : Context = record { number = state.next; view = view_of o.found; expiry = state.moment + o.keep } in (
       did.0,
       (
         context,
-        ap (λ (s : State). context_of number s.contexts) did.1 ∙ subst (λ n. context_of n (opened state o.keep o.found).contexts ≡ Some context) did.0 (found_next state o.keep o.found sound),
+        ap (λ (s : State). context_of number s.contexts) did.1 ∙ subst (λ n. context_of n (opened state o.keep o.found).contexts ≡ Some context) did.0 (found_next state o.keep o.found (state_sound limits o.before).issued),
         sym o.sees,
       ),
     )
@@ -56,7 +52,7 @@ none_before limits before now number next rest e =
     let is : state_of limits before ≡ run (state_of limits now) rest = ap (state_of limits) e ∙ run-append now rest _ in
     let later = run_later rest (state_of limits now) in
     let upto : (state_of limits before).next ≡ (run (state_of limits now) rest).next = ap (λ (s : State). s.next) is in
-    none_yet (state_of limits now) number (state_sound limits now) (omega (arith, later.next, upto, next))
+    none_above (state_of limits now).contexts (state_of limits now).next number (omega (arith, later.next, upto, next)) (state_sound limits now).issued
 
 -- what a turn finds is an answer of a context of its number
 turn_finds : (limits : Limits) (history : History) (number : ℕ) (turn : Turn limits history number) → (context : Context) × (context_of number (state_of limits turn.before).contexts ≡ Some context) × (turn.answer ≡ answer context.view turn.request 0)

@@ -79,6 +79,8 @@ pub record IsSound (state : State) : Type 0 where
   -- every issued number is below the next, and no two contexts have one number
   pub issued : All (λ (context : Context). context.number < state.next) state.contexts
   pub numbers_differ : AllPairs (λ (a b : Context). a.number < b.number) state.contexts
+  -- no more points in time are live than may be
+  pub limited : live_contexts state ≤ state.limits.pits
 
 -- each row and each waiting put is a JSON object
 pub record HasObjects (state : State) : Type 0 where

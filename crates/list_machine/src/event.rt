@@ -2,20 +2,20 @@ use crate::{Answer, SearchRequest};
 use es_types::{Doc, DocId, IndexName, Items, KeepAlive, Moment};
 
 /// What becomes of a document.
-#[derive(Debug, Drop)]
+#[derive(Drop)]
 pub enum Change {
     Put(Doc),
     Remove,
 }
 
 /// What a search looks at: the view of a point in time.
-#[derive(Debug, Drop)]
+#[derive(Drop)]
 pub enum Target {
     Pit { number: u64 },
 }
 
 /// One step of the machine.
-#[derive(Debug, Drop)]
+#[derive(Drop)]
 pub enum Event {
     /// Puts or removes a document; a search sees it once it is published.
     Write {
@@ -48,7 +48,7 @@ pub enum Event {
 }
 
 /// An entry of a history: an event, who made it, and at which moment.
-#[derive(Debug, Drop)]
+#[derive(Drop)]
 pub struct Entry {
     pub who: u64,
     pub moment: Moment,
@@ -56,7 +56,7 @@ pub struct Entry {
 }
 
 /// What a write did.
-#[derive(Clone, Copy, Debug, PartialEq, Eq)]
+#[derive(Clone, Copy)]
 pub enum Wrote {
     Created,
     Updated,
@@ -65,7 +65,7 @@ pub enum Wrote {
 }
 
 /// What the machine replies to an event. Those from `Spent` on refuse it.
-#[derive(Debug, Drop)]
+#[derive(Drop)]
 pub enum Reply {
     Done,
     /// `seq` is the operation's number in its shard, from 1.
@@ -86,7 +86,7 @@ pub enum Reply {
 }
 
 /// How many points in time may be live, and how many entries a history may have (1 to 2^53).
-#[derive(Clone, Copy, Debug, PartialEq, Eq)]
+#[derive(Clone, Copy)]
 pub struct Limits {
     pub pits: u64,
     pub entries: u64,

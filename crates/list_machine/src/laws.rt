@@ -1,4 +1,4 @@
-ghost use Rattle.std.specs.Prelude.{◌≡◌, ℕ, List, length, All};
+ghost use Rattle.std.specs.Prelude.{◌≡◌, ℕ, ◌≤◌, List, ◌++◌, length, All};
 ghost use Rattle.list_machine.specs.declared.event.Entry.{Entry};
 ghost use Rattle.list_machine.specs.declared.event.Limits.{Limits};
 ghost use Rattle.list_machine.specs.Pages.{Enumerates};
@@ -21,4 +21,9 @@ pub fn sound_states()
     // A Seal answers one number, since each index has one shard.
     ensures sealed { (limits : Limits) (history : History) (entry : Entry) (index numbers : List ℕ)
         → entry.event ≡ Event.Seal index → reply_of limits history entry ≡ Reply.Sealed numbers → length numbers ≡ 1 }
+    // No entry changes the limits.
+    ensures limits { (limits : Limits) (history : History) → (state_of limits history).limits ≡ limits }
+    // The moment never falls.
+    ensures moments { (limits : Limits) (history more : History)
+        → (state_of limits history).moment ≤ (state_of limits (history ++ more)).moment }
 {}

@@ -3,6 +3,7 @@
 #![tactic(auto)]
 
 mod event;
+mod first;
 mod laws;
 mod looking;
 mod machine;
@@ -11,11 +12,10 @@ mod publishing;
 mod search;
 mod service;
 mod store;
-#[cfg(test)]
-mod tests;
 mod writing;
 
 pub use event::{Change, Entry, Event, Limits, Reply, Target, Wrote};
+pub use first::docs;
 pub use laws::{pages_in_turn, sound_states};
 pub use machine::Machine;
 pub use search::{Answer, Counts, Hit, SearchRequest};

@@ -1,14 +1,15 @@
-ghost use Rattle.std.specs.Prelude.{◌≡◌, ◌+◌, ◌<◌, ◌≤◌, ◌^◌, IfOk, OnOk, OnErr};
-ghost use Rattle.list_machine.specs.State.{docs, start};
+ghost use Rattle.std.specs.Prelude.{◌≡◌, ◌+◌, ◌<◌, ◌^◌, IfOk, OnOk, OnErr};
+ghost use Rattle.list_machine.specs.State.{start};
 ghost use Rattle.list_machine.specs.Step.{happen, step};
 ghost use Rattle.list_machine.specs.Stores.{IsCounted, most_entries, state_seen};
 
+use crate::first::first_store;
 use crate::looking::{open_pit, seal, search};
 use crate::publishing::publish;
-use crate::store::{IndexStore, ShardStore, Store, later};
+use crate::store::Store;
 use crate::writing::write;
 use crate::{Entry, Event, Limits, Reply};
-use es_types::{IndexName, Moment, NoMemory, Text};
+use es_types::{Moment, NoMemory};
 use std::alloc::Global;
 use std::marker::Model;
 
@@ -35,14 +36,12 @@ impl Model for Machine {
 impl Machine {
     /// A machine with the empty index `docs`.
     pub fn make(alloc: Global, limits: Limits) -> Result<Machine, NoMemory>
-        requires some { 1 ≤ limits.entries }
-        requires bounded { limits.entries ≤ 2 ^ 53 }
         ensures { IfOk result (λ machine. machine ≡ record { state = start limits; entries = 0 }) }
     {
         Ok(Machine {
             alloc,
             entries: 0,
-            store: make_store(alloc, limits)?,
+            store: first_store(alloc, limits)?,
         })
     }
 
@@ -59,44 +58,13 @@ impl Machine {
     }
 }
 
-fn make_store(alloc: Global, limits: Limits) -> Result<Store, NoMemory>
-    ensures { IfOk result (λ store. state_seen store ≡ start limits) }
-{
-    let mut indexes = Vec::new(alloc);
-    indexes.push(IndexStore {
-        name: docs_name(alloc)?,
-        shard: ShardStore {
-            base: 0,
-            rows: Vec::new(alloc),
-            pending: Vec::new(alloc),
-        },
-    })?;
-    Ok(Store {
-        limits,
-        moment: Moment::zero(),
-        next: 1,
-        indexes,
-        contexts: Vec::new(alloc),
-    })
-}
-
-fn docs_name(alloc: Global) -> Result<IndexName, NoMemory>
-    ensures { IfOk result (λ name. name ≡ docs) }
-{
-    let text = Text::of(String::from_str(alloc, "docs")?);
-    match IndexName::make(text) {
-        Ok(name) => Ok(name),
-        Err(_) => unreachable!(),
-    }
-}
-
 /// The step at the later one of the two moments.
 fn take_step(alloc: Global, store: &mut Store, entry: &Entry) -> Result<Reply, NoMemory>
     requires { IsCounted most_entries (state_seen store.old) }
     ensures ok { IfOk result (λ reply. step (state_seen store.old) entry.now ≡ (state_seen store.new, reply)) }
     ensures err { OnErr result (state_seen store.new ≡ state_seen store.old) }
 {
-    let moment = later(store.moment, entry.moment);
+    let moment = store.moment.later(entry.moment);
     let reply = reply_to(alloc, store, moment, &entry.event)?;
     store.moment = moment;
     Ok(reply)

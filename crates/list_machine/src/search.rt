@@ -1,16 +1,15 @@
-use es_types::{Bytes, Copied, DocId, IndexName, Items, NoMemory, Value};
-use std::alloc::Global;
+use es_types::{Bytes, DocId, IndexName, Items, Value};
 
 /// What a search asks for: at most `size` hits, strictly after the place `after` where one is given. A hit shows
 /// its place.
-#[derive(Debug, Drop)]
+#[derive(Drop)]
 pub struct SearchRequest {
     pub size: u32,
     pub after: Option<i64>,
 }
 
 /// A document that a search found, with the values that it was ordered by.
-#[derive(Debug, Drop)]
+#[derive(Drop)]
 pub struct Hit {
     pub index: IndexName,
     pub id: DocId,
@@ -19,7 +18,7 @@ pub struct Hit {
 }
 
 /// How many shards a search spoke to, and how they fared. A skipped one counts as successful.
-#[derive(Clone, Copy, Debug, PartialEq, Eq)]
+#[derive(Drop)]
 pub struct Counts {
     pub total: u32,
     pub successful: u32,
@@ -29,19 +28,10 @@ pub struct Counts {
 
 /// The answer to a search: `total` is how many documents match, `hits` is the page, and `phases` is in how many steps
 /// the tops of the shards were brought together.
-#[derive(Debug, Drop)]
+#[derive(Drop)]
 pub struct Answer {
     pub counts: Counts,
     pub phases: u32,
     pub total: u64,
     pub hits: Items<Hit>,
-}
-
-impl Copied for SearchRequest {
-    fn copy(&self, _alloc: Global) -> Result<SearchRequest, NoMemory> {
-        Ok(SearchRequest {
-            size: self.size,
-            after: self.after,
-        })
-    }
 }

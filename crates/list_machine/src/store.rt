@@ -1,4 +1,4 @@
-ghost use Rattle.std.specs.Prelude.{◌≡◌, ◌<◌, ◌^◌, bytes_eq, max, position};
+ghost use Rattle.std.specs.Prelude.{◌≡◌, ◌<◌, ◌^◌, bytes_eq, position};
 ghost use Rattle.list_machine.specs.Rows.{last_number as last_number_of};
 ghost use Rattle.list_machine.specs.Stores.{shard_seen};
 
@@ -46,19 +46,13 @@ pub fn is_same_id(a: &DocId, b: &DocId) -> bool
     a.text().as_str() == b.text().as_str()
 }
 
-fn is_same_name(a: &IndexName, b: &IndexName) -> bool
-    ensures { result ≡ bytes_eq a.now b.now }
-{
-    a.text().as_str() == b.text().as_str()
-}
-
 /// The place of the index of that name.
 pub fn place_of(indexes: &[IndexStore], name: &IndexName) -> Option<usize>
     ensures { result ≡ position (λ index. bytes_eq index.name name.now) indexes.now }
 {
     indexes
         .iter()
-        .position(|index| is_same_name(&index.name, name))
+        .position(|index| index.name.text().as_str() == name.text().as_str())
 }
 
 /// The number of the last operation.
@@ -67,11 +61,4 @@ pub fn last_number(shard: &ShardStore) -> u64
     ensures { result ≡ last_number_of (shard_seen shard.now) }
 {
     shard.base + shard.pending.len() as u64
-}
-
-/// The later one of two moments.
-pub fn later(a: Moment, b: Moment) -> Moment
-    ensures { result ≡ max a b }
-{
-    if a < b { b } else { a }
 }

@@ -1,5 +1,5 @@
 -- A Seal, and a Publish where it was answered numbers.
-use Rattle.std.proofs.Common.{◌∙◌, subst, sym, List, ℕ, slice_index}
+use Rattle.std.proofs.Common.{subst, sym, List, ℕ, slice_index}
 use Rattle.list_machine.specs.declared.event.Event.TheVariants.{Seal}
 use Rattle.list_machine.specs.declared.event.Limits.{Limits}
 use Rattle.list_machine.specs.Serving.{Asked, HasSealed, asked}
@@ -33,13 +33,15 @@ returns-in-Ok-clause-talk g c =
     let was = subst (λ (i : List ℕ). Asked limits seat 4 old mid (asked seat c.args.moment (Seal i)) c.in_ok-reply.reply) c.in_ok-sealed.ensures c.in_ok-reply.ensures.asked in
     let one = one_sealed limits seat c.args.moment old mid c.in_ok-sealed.sealed c.in-Ok.numbers c.in_ok-reply.reply (c.sound_states.ensures.sealed limits) c.in_ok-reply.ensures.asked c.in-Ok.ensures in
     refreshed limits seat c.args.moment c.args.index c.in-Ok.numbers old mid (s.front c.publish.new.service) c.in_ok-reply.reply c.publish.result one c.in-Ok.ensures was
-    (same_publish c.in_ok-reply.ensures.limits c.in_ok-reply.ensures.seat c.args.moment c.args.index c.in-Ok.numbers mid (s.front c.publish.new.service) c.publish.result c.publish.ensures.talk)
+    (same_publish c.in_ok-reply.ensures.limits c.in_ok-reply.ensures.seat c.requires.name c.requires.route c.args.moment c.in-Ok.numbers _ mid (s.front c.publish.new.service) c.publish.result c.publish.ensures.talk)
 
 pub returns-in-Err-clause-talk : goal.returns-in-Err-clause-talk
 returns-in-Err-clause-talk g c =
     let s = g.V.Service in
     let limits = s.limits c.args.service.now in
     let seat = s.seat c.args.service.now in
-    let was = subst (λ (i : List ℕ). Asked limits seat 4 (s.front c.args.service.now) (s.front c.ask.new.self) (asked seat c.args.moment (Seal i)) c.in_ok-reply.reply) c.in_ok-sealed.ensures c.in_ok-reply.ensures.asked in
-    not_sealed limits seat c.args.moment c.args.index c.as_str.result.now (s.front c.args.service.now) (s.front c.ask.new.self) c.in_ok-reply.reply c.in-Err.reply c.settle.result
-    c.in-Err.ensures.0 c.in-Err.ensures.1 (c.as_str.ensures ∙ (c.text.ensures.value ∙ c.in_ok-name.ensures)) was c.settle.ensures
+    let old = s.front c.args.service.now in
+    let mid = s.front c.ask.new.self in
+    let was = subst (λ (i : List ℕ). Asked limits seat 4 old mid (asked seat c.args.moment (Seal i)) c.in_ok-reply.reply) c.in_ok-sealed.ensures c.in_ok-reply.ensures.asked in
+    not_sealed limits seat c.args.moment c.args.index old mid c.in_ok-reply.reply c.in-Err.reply c.settle.result c.in-Err.ensures.0 c.in-Err.ensures.1 was
+    (rw (← c.requires.name, ← c.requires.route, ← c.refusal-refused.ensures) c.settle.ensures)

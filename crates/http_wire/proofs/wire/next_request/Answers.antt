@@ -7,7 +7,7 @@ use Rattle.http_wire.specs.Parts.{IsParsed, IsParsedWithin, request_at}
 use Rattle.http_wire.specs.Requests.{Begins, head_limit}
 use Rattle.http_wire.specs.Stream.{Held}
 use Rattle.http_wire.proofs.Ends.{head_there}
-use Rattle.http_wire.proofs.Flow.{came_trans, ended_after, ended_refused}
+use Rattle.http_wire.proofs.Flow.{came_trans, ended_after, ended_refused, unchanged}
 use Rattle.http_wire.proofs.Front.{begins_at, method_is, next_err, next_some, no_memory, refused_more, short_of, target_is, text_of, token_of}
 use Rattle.http_wire.proofs.wire.next_request.Goals as goal
 
@@ -96,3 +96,9 @@ returns-in-Some-cut-clause-next g c =
 
 pub returns-in-None-clause-next : goal.returns-in-None-clause-next
 returns-in-None-clause-next g c = no_memory c.args.buf.now _ _ _
+
+pub returns-in-Some-cut-clause-reported : goal.returns-in-Some-cut-clause-reported
+returns-in-Some-cut-clause-reported g c =
+    let head = unchanged _ _ c.read_head.ensures.count (λ h. let no : ⊥ = cc (c.in-Ok-Some.ensures.reported h) in no) in
+    let body = unchanged _ _ c.read_body.ensures.count (λ h. let no : ⊥ = cc (c.in-Ok.ensures.reported h) in no) in
+    λ rose. absurd (omega (arith, rose, head, body))

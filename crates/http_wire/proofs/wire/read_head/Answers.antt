@@ -3,7 +3,7 @@ use Rattle.std.proofs.lemmas.List.{length-append, take_at}
 use Rattle.http_wire.specs.declared.wire.WireEnd.TheVariants.{NotBuilt, Truncated}
 use Rattle.http_wire.specs.Heads.{head_len}
 use Rattle.http_wire.specs.Requests.{head_limit}
-use Rattle.http_wire.proofs.Flow.{came_trans, ended_after, ended_by_end, ended_refused}
+use Rattle.http_wire.proofs.Flow.{came_trans, ended_after, ended_by_end, ended_refused, unchanged}
 use Rattle.http_wire.proofs.Front.{late_more, no_end, unfinished_head}
 use Rattle.http_wire.proofs.wire.read_head.Goals as goal
 
@@ -29,7 +29,7 @@ loop-long-preserved g c =
       seen = omega (arith, seen, ap length came.bytes, length-append held came.taken);
       limit = omega (arith, seen, short);
       none = ap head_len (ap (take (length c.held-held.result.now)) came.bytes ∙ take_at held came.taken (length c.held-held.result.now) (sym seen)) ∙ no_end held none short;
-      count = omega (arith, c.loop-long.invariant.count, c.read_more.ensures.count);
+      read_faults = unchanged _ _ c.read_more.ensures.count (λ h. let no : ⊥ = cc (c.in-Ok-true.ensures.reported h) in no) ∙ c.loop-long.invariant.read_faults;
       written = c.read_more.ensures.written ∙ c.loop-long.invariant.written;
       write_faults = c.read_more.ensures.write_faults ∙ c.loop-long.invariant.write_faults;
       held = c.read_more.ensures.held ∙ c.loop-long.invariant.held;

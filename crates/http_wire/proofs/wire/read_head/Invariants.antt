@@ -11,7 +11,7 @@ invariant-loop-long g l = record {
   seen : l.seen ≤ length l.buf.bytes;
   limit : l.seen ≤ head_limit;
   none : head_len (take l.seen l.buf.bytes) ≡ None;
-  count : g.L.Link.read_faults l.initial.link ≤ g.L.Link.read_faults l.link;
+  read_faults : g.L.Link.read_faults l.link ≡ g.L.Link.read_faults l.initial.link;
   written : g.L.Link.written l.link ≡ g.L.Link.written l.initial.link;
   write_faults : g.L.Link.write_faults l.link ≡ g.L.Link.write_faults l.initial.link;
   held : g.L.Link.held l.link ≡ g.L.Link.held l.initial.link;

@@ -9,7 +9,7 @@ loop-at-preserved g c =
     record {
       within = omega (arith, c.in-Ok.ensures.within, ap length rest, length-drop c.loop-at.at c.args.bytes.now, c.loop-at.invariant.within);
       wrote = wrote_more _ _ _ c.args.bytes.now _ c.loop-at.at c.in-Ok.count c.loop-at.invariant.wrote c.in-Ok.ensures.bytes rest;
-      count = omega (arith, c.loop-at.invariant.count, c.write.ensures.count);
+      write_faults = c.in-Ok.ensures.uncounted ∙ c.loop-at.invariant.write_faults;
       left = c.write.ensures.left ∙ c.loop-at.invariant.left;
       read_faults = c.write.ensures.read_faults ∙ c.loop-at.invariant.read_faults;
       held = c.write.ensures.held ∙ c.loop-at.invariant.held;

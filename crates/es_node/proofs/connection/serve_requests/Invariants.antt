@@ -1,8 +1,8 @@
 -- How far the connection has come; each request makes what may still be read smaller.
-use Rattle.std.proofs.Common.{◌≡◌, ◌≤◌}
+use Rattle.std.proofs.Common.{◌≡◌}
 use Rattle.http_wire.specs.Stream.{size}
 use Rattle.es_node.proofs.Progress.{Progress}
-use Rattle.es_node.proofs.connection.serve_connection.Given as goal
+use Rattle.es_node.proofs.connection.serve_requests.Given as goal
 
 abbrev pub invariant-requests : goal.invariant-requests
 invariant-requests g l =
@@ -14,8 +14,8 @@ invariant-requests g l =
           (link.left l.fn.link) (link.left l.link) (link.written l.fn.link) (link.written l.link) (clock.last l.fn.clock) (clock.last l.clock) (clock.greatest l.clock) l.session l.buf;
       seat : service.seat l.service ≡ service.seat l.fn.service;
       limits : service.limits l.service ≡ service.limits l.fn.service;
-      read_faults : link.read_faults l.fn.link ≤ link.read_faults l.link;
-      write_faults : link.write_faults l.fn.link ≤ link.write_faults l.link;
+      read_faults : link.read_faults l.link ≡ link.read_faults l.fn.link;
+      write_faults : link.write_faults l.link ≡ link.write_faults l.fn.link;
       held : link.held l.link ≡ link.held l.fn.link;
     }
 

@@ -1,0 +1,11 @@
+//! Each public call of the libraries, called with stated answers.
+#![tactic(auto)]
+
+#[cfg(test)]
+mod machine;
+#[cfg(test)]
+mod outside;
+#[cfg(test)]
+mod values;
+#[cfg(test)]
+mod wire;
