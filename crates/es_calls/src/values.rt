@@ -1,7 +1,7 @@
 //! The calls of `es_types`.
 use es_types::{
-    Bytes, Copied, Doc, DocId, FieldName, IndexName, Items, KeepAlive, Moment, NoMemory, Op, Row,
-    Text, Value,
+    Bytes, Copied, Doc, DocId, DocValue, FieldName, IndexName, Items, KeepAlive, Member, Moment,
+    NoMemory, Op, Row, Text, Value,
 };
 use std::alloc::Global;
 use std::test::Fail;
@@ -77,7 +77,7 @@ fn times_at_the_borders(rt: HostRuntime) -> Result<(), Fail> {
 }
 
 // Whether there was memory for a copy, which is known to be equal.
-fn copies<T: Copied>(alloc: Global, it: &T) -> bool {
+pub(crate) fn copies<T: Copied>(alloc: Global, it: &T) -> bool {
     it.copy(alloc).is_ok()
 }
 
@@ -106,10 +106,23 @@ fn copies_of_rows(rt: HostRuntime) -> Result<(), Fail> {
         id: row.id.copy(alloc)?,
     };
     assert!(rt; copies(alloc, &remove));
+    let key = Member {
+        name: text(alloc, "tag")?,
+        value: DocValue::Key(text(alloc, "k")?),
+    };
+    let long = Member {
+        name: text(alloc, "n")?,
+        value: DocValue::Long(-7),
+    };
+    assert!(rt; copies(alloc, &key.value));
+    assert!(rt; copies(alloc, &long));
     let doc = Doc {
         source: row.source.copy(alloc)?,
+        members: Items::of(vec![in alloc; key, long]?),
     };
     assert!(rt; copies(alloc, &doc));
+    assert!(rt; copies(alloc, &DocValue::Null));
+    assert!(rt; copies(alloc, &DocValue::Other));
     let Row {
         id,
         source,

@@ -76,7 +76,7 @@ not_both : (r : Result Ask RestFault) (a : Ask) (b : RestFault) → r ≡ Ok a �
 not_both r a b x y = cc
 
 converse_alike : (limits : Limits) (moment : ℕ) (ask : Ask) (old new other : History) (response said : Response) → Fits limits new → Fits limits other
-    → Conversation limits 0 moment ask old new response → Conversation limits 0 moment ask old other said → (new ≡ other) × (response ≡ said)
+    → Conversation limits 0 moment ask [] old new response → Conversation limits 0 moment ask [] old other said → (new ≡ other) × (response ≡ said)
 converse_alike limits moment ask old new other response said fits fit h k =
     let one = talks_alike limits moment ask [] old new other h.part k.part fits fit h.talks h.all k.talks k.all in
     (one.0, h.is ∙ ap (response_of ask) one.1 ∙ sym k.is)
@@ -99,7 +99,7 @@ responds_alike limits moment newest old new other request response said ample en
     (λ refused. absurd (not_both _ done.ask refused.fault done.route refused.route))
     (λ rest. ⊎_elim
     (λ again. converse_alike limits moment done.ask old new other response said fits fit done.conversation
-    (subst (λ (a : Ask). Conversation limits 0 moment a old other said) (same_ask _ again.ask done.ask again.route done.route) again.conversation))
+    (subst (λ (a : Ask). Conversation limits 0 moment a [] old other said) (same_ask _ again.ask done.ask again.route done.route) again.conversation))
     (λ wants. absurd (enough wants.is))
     rest)
     k)

@@ -3,6 +3,8 @@ use Rattle.std.specs.Prelude.{ℕ, ◌-◌, ◌==◌, Bool, true, false, if◌th
 use Rattle.std.specs.Fmt.{signed_decimal}
 use Rattle.http.specs.StatusCode.{status_text}
 use Rattle.json.specs.Print.{quoted}
+use Rattle.es_types.specs.declared.fit.DocCause.{DocCause}
+use Rattle.es_types.specs.declared.fit.DocCause.TheVariants.{Kind, TooLong}
 use Rattle.es_types.specs.declared.row.Value.{Value}
 use Rattle.es_types.specs.declared.row.Value.TheVariants.{Key, Long, Missing}
 use Rattle.list_machine.specs.declared.event.Wrote.{Wrote}
@@ -113,6 +115,8 @@ fault_status fault.NotBuilt = 501
 fault_status fault.BadBody = 400
 fault_status fault.Spent = 429
 fault_status (fault.NoIndex name) = 404
+fault_status (fault.Exists name) = 400
+fault_status (fault.BadDoc doc) = 400
 fault_status (fault.NoContext id) = 404
 fault_status (fault.TooMany limit) = 429
 fault_status fault.ShardFull = 429
@@ -123,16 +127,24 @@ fault_type fault.NotBuilt = codes "not_built_exception"
 fault_type fault.BadBody = codes "parsing_exception"
 fault_type fault.Spent = codes "history_full_exception"
 fault_type (fault.NoIndex name) = codes "index_not_found_exception"
+fault_type (fault.Exists name) = codes "resource_already_exists_exception"
+fault_type (fault.BadDoc doc) = codes "document_parsing_exception"
 fault_type (fault.NoContext id) = codes "search_context_missing_exception"
 fault_type (fault.TooMany limit) = codes "too_many_contexts_exception"
 fault_type fault.ShardFull = codes "shard_full_exception"
 fault_type fault.NoMemory = codes "no_memory_exception"
+
+abbrev pub cause_text : DocCause → List ℕ
+cause_text Kind = codes "of another kind"
+cause_text TooLong = codes "that is too long"
 
 abbrev pub reason : RestFault → List ℕ
 reason fault.NotBuilt = codes "not built"
 reason fault.BadBody = codes "bad body"
 reason fault.Spent = codes "history is full"
 reason (fault.NoIndex name) = joined (codes "no such index [" ∷ name ∷ codes "]" ∷ [])
+reason (fault.Exists name) = joined (codes "index [" ∷ name ∷ codes "] exists" ∷ [])
+reason (fault.BadDoc doc) = joined (codes "field [" ∷ decimal doc.field ∷ codes "] has a value " ∷ cause_text doc.cause ∷ [])
 reason (fault.NoContext id) = joined (codes "no context [" ∷ id ∷ codes "]" ∷ [])
 reason (fault.TooMany limit) = joined (codes "limit [" ∷ decimal limit ∷ codes "]" ∷ [])
 reason fault.ShardFull = codes "shard is full"

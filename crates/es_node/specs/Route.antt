@@ -1,5 +1,5 @@
 -- What a request asks for: one of four shapes, and any other is not built.
-use Rattle.std.specs.Prelude.{◌≡◌, ℕ, ◌&&◌, ◌==◌, Bool, not, nat_lt, nat_le, bytes_eq, if◌then◌else◌, List, length, drop, Option, Some, None, Result, Ok, Err, codes}
+use Rattle.std.specs.Prelude.{◌≡◌, ℕ, ◌&&◌, ◌==◌, Bool, not, nat_lt, nat_le, bytes_eq, if◌then◌else◌, List, [], length, drop, Option, Some, None, Result, Ok, Err, codes}
 use Rattle.std.specs.List.{list_all, starts_with}
 use Rattle.es_types.specs.Name.{is_lower_or_digit}
 use Rattle.http_wire.specs.declared.request.Request.{Request}
@@ -58,7 +58,7 @@ abbrev pub is_search : Request → Bool
 is_search request = posts search_path request && not request.has_query
 
 abbrev pub put_of : List ℕ → List ℕ → Result Ask RestFault
-put_of id source = if is_object source then Ok (Put docs id (record { source = source })) else Err BadBody
+put_of id source = if is_object source then Ok (Put docs id (record { source = source; members = [] })) else Err BadBody
 
 abbrev pub search_asked : Option Wanted → Result Ask RestFault
 search_asked None = Err NotBuilt

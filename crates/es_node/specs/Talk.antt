@@ -1,5 +1,5 @@
 -- Which events a request asks for, what it is answered, and what a row of requests makes of the history.
-use Rattle.std.specs.Prelude.{◌≡◌, ◌⊎◌, ℕ, ◌+◌, ◌*◌, max, List, [], ◌∷◌, ◌++◌, length, Option, Some, None, option_map, slice_get, Ok, Err}
+use Rattle.std.specs.Prelude.{◌≡◌, ◌⊎◌, ℕ, ◌+◌, ◌*◌, max, List, [], ◌∷◌, ◌++◌, length, Option, Some, None, option_map, option_and_then, slice_get, Ok, Err}
 use Rattle.http_wire.specs.declared.request.Request.{Request}
 use Rattle.list_machine.specs.declared.event.Event.{Event}
 use Rattle.list_machine.specs.declared.event.Event.TheVariants as event
@@ -11,7 +11,7 @@ use Rattle.list_machine.specs.declared.event.Target.TheVariants.{Pit}
 use Rattle.list_machine.specs.declared.event.Limits.{Limits}
 use Rattle.list_machine.specs.Objects.{IsObject}
 use Rattle.list_machine.specs.Run.{History, state_of}
-use Rattle.list_machine.specs.Serving.{Asked, GrowsBeside, MayHaveAsked, applied, asked}
+use Rattle.list_machine.specs.Serving.{Asked, GrowsBeside, HasSealed, MayHaveAsked, applied, asked}
 use Rattle.es_node.specs.declared.ask.Ask.{Ask}
 use Rattle.es_node.specs.declared.ask.Ask.TheVariants.{Put, Refresh, OpenPit, Search}
 use Rattle.es_node.specs.declared.fault.RestFault.{RestFault}
@@ -43,6 +43,8 @@ name_of (Search (Pit number) request) = id_text number
 abbrev pub refusal : List ℕ → Reply → Option RestFault
 refusal name reply.Spent = Some fault.Spent
 refusal name reply.NoIndex = Some (fault.NoIndex name)
+refusal name reply.Exists = Some (fault.Exists name)
+refusal name (reply.BadDoc doc) = Some (fault.BadDoc doc)
 refusal name reply.Missing = Some (fault.NoContext name)
 refusal name (reply.TooMany limit) = Some (fault.TooMany limit)
 refusal name reply.ShardFull = Some fault.ShardFull
@@ -119,12 +121,12 @@ pub record IsFault (newest : ℕ) (old new : History) (request : Request) (respo
   pub same : new ≡ old
   pub is : response ≡ Fault fault
 
--- all events were asked, and the response prints their replies
-pub record Conversation (limits : Limits) (seat moment : ℕ) (ask : Ask) (old new : History) (response : Response) : Type 0 where
+-- behind those that were asked before, all events were asked, and the response prints their replies
+pub record Conversation (limits : Limits) (seat moment : ℕ) (ask : Ask) (before : Part) (old new : History) (response : Response) : Type 0 where
   pub part : Part
-  pub talks : Talks limits seat moment ask [] old new part
-  pub all : next ask part ≡ None
-  pub is : response ≡ response_of ask part
+  pub talks : Talks limits seat moment ask before old new part
+  pub all : next ask (before ++ part) ≡ None
+  pub is : response ≡ response_of ask (before ++ part)
 
 -- one event was asked, and its reply is what the response prints
 pub record OneEvent (limits : Limits) (seat moment : ℕ) (name : List ℕ) (route : RouteName) (event : Event) (old new : History) (response : Response) : Type 0 where
@@ -132,28 +134,38 @@ pub record OneEvent (limits : Limits) (seat moment : ℕ) (name : List ℕ) (rou
   pub was : Asked limits seat 4 old new (asked seat moment event) said
   pub is : response ≡ settled (refusal name said) said route
 
--- a Publish was asked, and behind it the response prints what was sealed
-pub record Published (limits : Limits) (seat moment : ℕ) (name : List ℕ) (route : RouteName) (numbers : List ℕ) (event : Event) (old new : History) (response : Response) : Type 0 where
-  pub said : Reply
-  pub was : Asked limits seat 4 old new (asked seat moment event) said
-  pub is : response ≡ settled (refusal name said) (reply.Sealed numbers) route
-
--- some first events were asked, the next one perhaps
-pub record Interrupted (limits : Limits) (seat moment : ℕ) (ask : Ask) (old new : History) : Type 0 where
+-- behind those that were asked before, some first events were asked, the next one perhaps
+pub record Interrupted (limits : Limits) (seat moment : ℕ) (ask : Ask) (before : Part) (old new : History) : Type 0 where
   pub part : Part
   pub mid : History
-  pub talks : Talks limits seat moment ask [] old mid part
-  pub rest : (new ≡ mid) ⊎ ((event : Event) × (next ask part ≡ Some event) × MayHaveAsked seat 4 mid new (asked seat moment event))
+  pub talks : Talks limits seat moment ask before old mid part
+  pub rest : (new ≡ mid) ⊎ ((event : Event) × (next ask (before ++ part) ≡ Some event) × MayHaveAsked seat 4 mid new (asked seat moment event))
+
+-- a Seal of the index answered these numbers for its shards
+abbrev pub AreSealed : Limits → History → List ℕ → List ℕ → Type 0
+AreSealed limits history index numbers =
+    (shard upto : ℕ) → slice_get numbers shard ≡ Some upto → HasSealed limits history index shard upto
+
+-- a Seal that was answered these numbers
+abbrev pub sealed : List ℕ → List ℕ → Part
+sealed index numbers = (event.Seal index, reply.Sealed numbers) ∷ []
+
+-- behind the Seal of an index its shards were published, all or until one was refused
+pub record Published (limits : Limits) (seat moment : ℕ) (index numbers : List ℕ) (old new : History) (refused : Option Reply) : Type 0 where
+  pub part : Part
+  pub talks : Talks limits seat moment (Refresh index) (sealed index numbers) old new part
+  pub all : next (Refresh index) (sealed index numbers ++ part) ≡ None
+  pub is : last_refusal (Refresh index) (sealed index numbers ++ part) ≡ option_and_then (refusal index) refused
 
 pub record IsDone (limits : Limits) (seat moment newest : ℕ) (old new : History) (request : Request) (response : Response) : Type 0 where
   pub ask : Ask
   pub route : asked_of newest request ≡ Ok ask
-  pub conversation : Conversation limits seat moment ask old new response
+  pub conversation : Conversation limits seat moment ask [] old new response
 
 pub record IsCutShort (limits : Limits) (seat moment newest : ℕ) (old new : History) (request : Request) : Type 0 where
   pub ask : Ask
   pub route : asked_of newest request ≡ Ok ask
-  pub interrupted : Interrupted limits seat moment ask old new
+  pub interrupted : Interrupted limits seat moment ask [] old new
 
 -- memory was wanted, at any point of it
 pub record WantsMemory (limits : Limits) (seat moment newest : ℕ) (old new : History) (request : Request) (response : Response) : Type 0 where

@@ -7,7 +7,7 @@ ghost use Rattle.es_node.specs.Route.{Answers, asked_of, id_in, is_doc_path, is_
 
 use crate::body::{is_object, search_of, trimmed};
 use crate::fault::RestFault;
-use es_types::{Bytes, Doc, DocId, IndexName, KeepAlive, NoMemory, Text};
+use es_types::{Bytes, Doc, DocId, IndexName, Items, KeepAlive, NoMemory, Text};
 use http_wire::Request;
 use list_machine::{SearchRequest, Target, docs};
 use std::alloc::Global;
@@ -104,6 +104,8 @@ fn put_of(alloc: Global, id: DocId, body: &[u8]) -> Result<Ask, RestFault>
         id,
         doc: Doc {
             source: Bytes::of(Vec::from_slice(alloc, source)?),
+            // No field asks for one yet.
+            members: Items::of(Vec::new(alloc)),
         },
     })
 }

@@ -1,9 +1,9 @@
-ghost use Rattle.std.specs.Prelude.{◌≡◌, ◌+◌, ◌*◌, ℕ, List, IfOk, MatchResult, length, slice_index};
+ghost use Rattle.std.specs.Prelude.{◌≡◌, ◌≤◌, [], ℕ, List, IfOk, MatchResult, is_some, length, option_and_then};
 ghost use Rattle.list_machine.specs.declared.event.Limits.{Limits};
 ghost use Rattle.list_machine.specs.Run.{History};
-ghost use Rattle.list_machine.specs.Serving.{HasSealed, IsAskable, MayHaveAsked, asked};
+ghost use Rattle.list_machine.specs.Serving.{IsAskable, MayHaveAsked, asked};
 ghost use Rattle.es_node.specs.declared.ask.Ask.TheVariants as asks;
-ghost use Rattle.es_node.specs.Talk.{AsksObject, AsksOne, Conversation, Interrupted, OneEvent, Published, Responds, name_of, publish_next, refusal, route_of, settled, status_of};
+ghost use Rattle.es_node.specs.Talk.{AreSealed, AsksObject, AsksOne, Conversation, Interrupted, OneEvent, Published, Responds, name_of, publish_next, refusal, route_of, sealed, settled, status_of};
 
 use crate::ask::{Ask, route};
 use crate::fault::RestFault;
@@ -82,10 +82,21 @@ fn refusal(name: Text, reply: &Reply) -> Option<RestFault>
     match reply {
         Reply::Spent => Some(RestFault::Spent),
         Reply::NoIndex => Some(RestFault::NoIndex(name)),
+        Reply::Exists => Some(RestFault::Exists(name)),
+        Reply::BadDoc(fault) => Some(RestFault::BadDoc(*fault)),
         Reply::Missing => Some(RestFault::NoContext(name)),
         Reply::TooMany { limit } => Some(RestFault::TooMany(*limit)),
         Reply::ShardFull => Some(RestFault::ShardFull),
         _ => None,
+    }
+}
+
+fn refusal_of(name: Text, reply: &Option<Reply>) -> Option<RestFault>
+    ensures { result ≡ option_and_then (refusal name) reply.now }
+{
+    match reply {
+        Some(reply) => refusal(name, reply),
+        None => None,
     }
 }
 
@@ -147,30 +158,76 @@ fn sealed_numbers(reply: Reply) -> Result<Items<u64>, Reply>
     }
 }
 
-// Publishes the one shard of an index up to the number that was sealed for it.
-fn publish<V: Service>(
+// Whether a reply refuses its event.
+fn is_refusal(reply: &Reply) -> bool
+    ensures { (name : List ℕ) → result ≡ is_some (refusal name reply.now) }
+{
+    match reply {
+        Reply::Spent
+        | Reply::NoIndex
+        | Reply::Exists
+        | Reply::Missing
+        | Reply::BadDoc(_)
+        | Reply::TooMany { limit: _ }
+        | Reply::ShardFull => true,
+        _ => false,
+    }
+}
+
+// Publishes the shards of an index from the first on, up to the numbers that were sealed for them. The answer is the
+// reply that refused one, if one was refused.
+fn publish_all<V: Service>(
+    alloc: Global,
     service: &mut V,
-    index: IndexName,
+    index: &IndexName,
+    numbers: &[u64],
+    moment: Moment,
+) -> Result<Option<Reply>, NoMemory>
+    requires few { length numbers.now ≤ 65536 }
+    requires were_sealed { AreSealed (V.limits service.old) (V.front service.old) index.now numbers.now }
+    ensures talk { MatchResult result
+        (Published (V.limits service.old) (V.seat service.old) moment index.now numbers.now (V.front service.old) (V.front service.new))
+        (λ _. Interrupted (V.limits service.old) (V.seat service.old) moment (asks.Refresh index.now) (sealed index.now numbers.now) (V.front service.old) (V.front service.new)) }
+    ensures seat { V.seat service.new ≡ V.seat service.old }
+    ensures limits { V.limits service.new ≡ V.limits service.old }
+{
+    let mut shard = 0;
+    for upto in numbers {
+        let event = Event::Publish {
+            index: index.copy(alloc)?,
+            shard,
+            upto: *upto,
+        };
+        let said = service.ask(event, moment)?;
+        if is_refusal(&said) {
+            return Ok(Some(said));
+        }
+        shard += 1;
+    }
+    Ok(None)
+}
+
+// Publishes what was sealed, and answers the refresh.
+fn publish_sealed<V: Service>(
+    alloc: Global,
+    service: &mut V,
+    index: &IndexName,
     label: Label,
     numbers: Items<u64>,
     moment: Moment,
 ) -> Result<Response, NoMemory>
-    requires one { length numbers ≡ 1 }
-    requires sealed { HasSealed (V.limits service.old) (V.front service.old) index 0 (slice_index numbers 0) }
-    ensures talk { let publish = Event.Publish index 0 (slice_index numbers 0) in MatchResult result
-        (Published (V.limits service.old) (V.seat service.old) moment label.name label.route numbers publish (V.front service.old) (V.front service.new))
-        (λ _. MayHaveAsked (V.seat service.old) 4 (V.front service.old) (V.front service.new) (asked (V.seat service.old) moment publish)) }
+    requires name { label.name ≡ index.now }
+    requires route { label.route ≡ RouteName.Refresh }
+    requires few { length numbers ≤ 65536 }
+    requires were_sealed { AreSealed (V.limits service.old) (V.front service.old) index.now numbers }
+    ensures talk { MatchResult result
+        (Conversation (V.limits service.old) (V.seat service.old) moment (asks.Refresh index.now) (sealed index.now numbers) (V.front service.old) (V.front service.new))
+        (λ _. Interrupted (V.limits service.old) (V.seat service.old) moment (asks.Refresh index.now) (sealed index.now numbers) (V.front service.old) (V.front service.new)) }
     ensures seat { V.seat service.new ≡ V.seat service.old }
     ensures limits { V.limits service.new ≡ V.limits service.old }
 {
-    let upto = numbers.as_slice()[0];
-    let event = Event::Publish {
-        index,
-        shard: 0,
-        upto,
-    };
-    let said = service.ask(event, moment)?;
-    let refused = refusal(label.name, &said);
+    let refused = publish_all(alloc, service, index, numbers.as_slice(), moment)?;
+    let refused = refusal_of(label.name, &refused);
     Ok(settle(refused, Reply::Sealed(numbers), label.route))
 }
 
@@ -185,8 +242,8 @@ fn refresh<V: Service>(
     requires name { label.name ≡ index }
     requires route { label.route ≡ RouteName.Refresh }
     ensures talk { MatchResult result
-        (Conversation (V.limits service.old) (V.seat service.old) moment (asks.Refresh index) (V.front service.old) (V.front service.new))
-        (λ _. Interrupted (V.limits service.old) (V.seat service.old) moment (asks.Refresh index) (V.front service.old) (V.front service.new)) }
+        (Conversation (V.limits service.old) (V.seat service.old) moment (asks.Refresh index) [] (V.front service.old) (V.front service.new))
+        (λ _. Interrupted (V.limits service.old) (V.seat service.old) moment (asks.Refresh index) [] (V.front service.old) (V.front service.new)) }
     ensures seat { V.seat service.new ≡ V.seat service.old }
     ensures limits { V.limits service.new ≡ V.limits service.old }
 {
@@ -194,7 +251,7 @@ fn refresh<V: Service>(
     let sealed = index.copy(alloc)?;
     let reply = service.ask(Event::Seal { index: sealed }, moment)?;
     match sealed_numbers(reply) {
-        Ok(numbers) => publish(service, index, label, numbers, moment),
+        Ok(numbers) => publish_sealed(alloc, service, &index, label, numbers, moment),
         Err(reply) => {
             let refused = refusal(label.name, &reply);
             Ok(settle(refused, reply, label.route))
@@ -211,8 +268,8 @@ fn converse<V: Service>(
 ) -> Result<Response, NoMemory>
     requires { AsksObject ask }
     ensures talk { MatchResult result
-        (Conversation (V.limits service.old) (V.seat service.old) moment ask (V.front service.old) (V.front service.new))
-        (λ _. Interrupted (V.limits service.old) (V.seat service.old) moment ask (V.front service.old) (V.front service.new)) }
+        (Conversation (V.limits service.old) (V.seat service.old) moment ask [] (V.front service.old) (V.front service.new))
+        (λ _. Interrupted (V.limits service.old) (V.seat service.old) moment ask [] (V.front service.old) (V.front service.new)) }
     ensures seat { V.seat service.new ≡ V.seat service.old }
     ensures limits { V.limits service.new ≡ V.limits service.old }
 {

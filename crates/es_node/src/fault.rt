@@ -1,7 +1,7 @@
 ghost use Rattle.es_node.specs.declared.fault.RestFault.TheVariants.{NoMemory};
 ghost use Rattle.std.specs.Prelude.{◌≡◌};
 
-use es_types::Text;
+use es_types::{DocFault, Text};
 use std::alloc::AllocError;
 
 /// Why a request is refused.
@@ -15,6 +15,10 @@ pub enum RestFault {
     Spent,
     /// There is no index of that name.
     NoIndex(Text),
+    /// An index of that name is there.
+    Exists(Text),
+    /// The document has a value that is none of its field.
+    BadDoc(DocFault),
     /// No context of that id is live.
     NoContext(Text),
     /// As many contexts as may be are live.

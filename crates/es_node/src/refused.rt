@@ -1,9 +1,9 @@
 ghost use Rattle.std.specs.Prelude.{◌≡◌, ◌∷◌, [], IfOk, codes, decimal, string_bytes};
-ghost use Rattle.es_node.specs.Replies.{error_text, fault_status, fault_text, fault_type, joined, reason};
+ghost use Rattle.es_node.specs.Replies.{cause_text, error_text, fault_status, fault_text, fault_type, joined, reason};
 
 use crate::fault::RestFault;
 use crate::reply::quoted;
-use es_types::NoMemory;
+use es_types::{DocCause, DocFault, NoMemory};
 use std::alloc::Global;
 
 /// The status code of a fault.
@@ -15,6 +15,8 @@ pub fn fault_status(fault: &RestFault) -> u16
         RestFault::BadBody => 400,
         RestFault::Spent => 429,
         RestFault::NoIndex(_) => 404,
+        RestFault::Exists(_) => 400,
+        RestFault::BadDoc(_) => 400,
         RestFault::NoContext(_) => 404,
         RestFault::TooMany(_) => 429,
         RestFault::ShardFull => 429,
@@ -30,6 +32,8 @@ fn fault_type(fault: &RestFault) -> &'static str
         RestFault::BadBody => "parsing_exception",
         RestFault::Spent => "history_full_exception",
         RestFault::NoIndex(_) => "index_not_found_exception",
+        RestFault::Exists(_) => "resource_already_exists_exception",
+        RestFault::BadDoc(_) => "document_parsing_exception",
         RestFault::NoContext(_) => "search_context_missing_exception",
         RestFault::TooMany(_) => "too_many_contexts_exception",
         RestFault::ShardFull => "shard_full_exception",
@@ -41,6 +45,29 @@ fn no_index(alloc: Global, name: &str) -> Result<String, NoMemory>
     ensures { IfOk result (λ s. string_bytes s ≡ joined (codes "no such index [" ∷ name.now ∷ codes "]" ∷ [])) }
 {
     format!(in alloc; "no such index [{name}]")
+}
+
+fn exists(alloc: Global, name: &str) -> Result<String, NoMemory>
+    ensures { IfOk result (λ s. string_bytes s ≡ joined (codes "index [" ∷ name.now ∷ codes "] exists" ∷ [])) }
+{
+    format!(in alloc; "index [{name}] exists")
+}
+
+fn bad_doc(alloc: Global, fault: DocFault) -> Result<String, NoMemory>
+    ensures { IfOk result (λ s. string_bytes s ≡ joined (codes "field [" ∷ decimal fault.field ∷ codes "] has a value " ∷ cause_text fault.cause ∷ [])) }
+{
+    let field = fault.field;
+    let cause = cause_text(fault.cause);
+    format!(in alloc; "field [{field}] has a value {cause}")
+}
+
+fn cause_text(cause: DocCause) -> &'static str
+    ensures { result.now ≡ cause_text cause }
+{
+    match cause {
+        DocCause::Kind => "of another kind",
+        DocCause::TooLong => "that is too long",
+    }
 }
 
 fn no_context(alloc: Global, id: &str) -> Result<String, NoMemory>
@@ -63,6 +90,8 @@ fn reason(alloc: Global, fault: &RestFault) -> Result<String, NoMemory>
         RestFault::BadBody => String::from_str(alloc, "bad body"),
         RestFault::Spent => String::from_str(alloc, "history is full"),
         RestFault::NoIndex(name) => no_index(alloc, name.as_str()),
+        RestFault::Exists(name) => exists(alloc, name.as_str()),
+        RestFault::BadDoc(doc) => bad_doc(alloc, *doc),
         RestFault::NoContext(id) => no_context(alloc, id.as_str()),
         RestFault::TooMany(limit) => over_limit(alloc, *limit),
         RestFault::ShardFull => String::from_str(alloc, "shard is full"),

@@ -1,18 +1,20 @@
 ghost use Rattle.std.specs.Prelude.{◌≡◌, ◌+◌, ◌<◌, ◌≤◌, ◌^◌, ◌++◌, [], ◌∷◌, IfOk, OnErr};
+ghost use Rattle.list_machine.specs.Run.{CreatesSome, PutsObject};
 ghost use Rattle.list_machine.specs.Serving.{IsKept};
-ghost use Rattle.list_machine.specs.Step.{step};
-ghost use Rattle.es_node.specs.Solo.{AreOwn};
+ghost use Rattle.es_core.specs.Stands.{Replies, StandsOn};
+ghost use Rattle.es_node.specs.Solo.{Advances, AreOwn};
 
+use es_core::{Brought, Core, Turned};
 use es_types::{Moment, NoMemory};
-use list_machine::{Entry, Event, Limits, Machine, Reply, Service};
+use list_machine::{Entry, Event, Limits, Reply, Service};
 use std::alloc::Global;
 use std::marker::Model;
 
-/// A service with one caller: the plain machine, and the journal of all entries so far.
+/// A service with one caller: the core, and the journal of all entries so far.
 #[derive(Drop)]
 pub struct Solo {
     limits: Limits,
-    machine: Machine,
+    core: Core,
     journal: Vec<Entry>,
 }
 
@@ -23,7 +25,7 @@ impl Model for Solo {
 
     ghost view = { λ s. record { limits = s.limits; history = s.journal.items } };
 
-    ghost invariant = { λ s. IsRunning s.limits s.machine s.journal.items };
+    ghost invariant = { λ s. IsRunning s.limits s.core s.journal.items };
 }
 
 impl Solo {
@@ -33,10 +35,10 @@ impl Solo {
         requires bounded { limits.entries ≤ 2 ^ 53 }
         ensures { IfOk result (λ solo. solo ≡ record { limits = limits; history = [] }) }
     {
-        let machine = Machine::make(alloc, limits)?;
+        let core = Core::make(alloc, limits)?;
         Ok(Solo {
             limits,
-            machine,
+            core,
             journal: Vec::new(alloc),
         })
     }
@@ -48,25 +50,35 @@ impl Solo {
     {
         let Solo {
             limits: _,
-            machine: _,
+            core,
             journal: _,
         } = self;
+        let _ = core.finish();
+    }
+}
+
+// The reply that a turn gives.
+fn reply_of(turned: Turned) -> Reply
+    ensures given { (reply : Reply) → Replies reply turned → result ≡ reply }
+{
+    match turned {
+        Turned::Now(reply) => reply,
     }
 }
 
 // Takes the step of an entry and writes it down. Nothing changes where memory is wanted.
-fn advance(machine: &mut Machine, journal: &mut Vec<Entry>, entry: Entry) -> Result<Reply, NoMemory>
-    requires { machine.old.entries < 2 ^ 53 }
-    ensures reply { IfOk result (λ reply. reply ≡ (step machine.old.state entry).1) }
-    ensures machine { IfOk result (λ _. machine.new ≡ record { state = (step machine.old.state entry).0; entries = machine.old.entries + 1 }) }
+fn advance(core: &mut Core, journal: &mut Vec<Entry>, entry: Entry) -> Result<Reply, NoMemory>
+    requires object { PutsObject entry.event }
+    requires creates { CreatesSome entry.event }
+    ensures advances { IfOk result (Advances core.old core.new entry) }
     ensures journal { IfOk result (λ _. journal.new.items ≡ journal.old.items ++ entry ∷ []) }
-    ensures machine_kept { OnErr result (machine.new ≡ machine.old) }
+    ensures core_kept { OnErr result (StandsOn core.old core.new) }
     ensures journal_kept { OnErr result (journal.new.items ≡ journal.old.items) }
 {
     journal.reserve(1)?;
-    let reply = machine.step(&entry)?;
+    let turned = core.turn(&entry.event, entry.moment, Brought::Nothing)?;
     match journal.push(entry) {
-        Ok(()) => Ok(reply),
+        Ok(()) => Ok(reply_of(turned)),
         Err(_) => unreachable!(),
     }
 }
@@ -87,7 +99,7 @@ impl Service for Solo {
             moment,
             event,
         };
-        advance(&mut self.machine, &mut self.journal, entry)
+        advance(&mut self.core, &mut self.journal, entry)
     }
 
     fn help(&mut self, _moment: Moment) -> Result<bool, NoMemory> {

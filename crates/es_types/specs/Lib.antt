@@ -1,2 +1,6 @@
 pub mod formers
 pub mod Name
+pub mod Fail
+pub mod Fields
+pub mod Fit
+pub mod Homes

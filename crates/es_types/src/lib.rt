@@ -1,18 +1,26 @@
-//! What the service's crates speak of in common: texts, lists, names, times, rows and operations.
+//! What the service's crates speak of in common: texts, lists, names, times, mappings, documents, rows and operations.
 #![tactic(auto)]
 
 mod copied;
+mod doc;
 mod fail;
+mod fit;
+mod home;
 mod items;
+mod mapping;
 mod name;
 mod row;
 mod text;
 mod time;
 
 pub use copied::Copied;
+pub use doc::{Doc, DocValue, Member};
 pub use fail::{Fail, NoMemory};
+pub use fit::{DocCause, DocFault, fit_doc};
+pub use home::shard_of;
 pub use items::Items;
+pub use mapping::{Field, FieldKind, Mapping};
 pub use name::{DocId, FieldName, IndexName};
-pub use row::{Doc, Op, Row, Value};
+pub use row::{Op, Row, Value};
 pub use text::{Bytes, Text};
 pub use time::{KeepAlive, Moment};

@@ -9,12 +9,6 @@ pub enum Value {
     Missing,
 }
 
-/// A document as it was sent: its text without white space at the ends.
-#[derive(Drop)]
-pub struct Doc {
-    pub source: Bytes,
-}
-
 /// A document as its shard keeps it. `seq` is the number of the operation that put it, from 1, and `values`
 /// has one value for each mapped field.
 #[derive(Drop)]
@@ -45,14 +39,6 @@ impl Copied for Value {
             Value::Long(number) => Ok(Value::Long(*number)),
             Value::Missing => Ok(Value::Missing),
         }
-    }
-}
-
-impl Copied for Doc {
-    fn copy(&self, alloc: Global) -> Result<Doc, NoMemory> {
-        Ok(Doc {
-            source: self.source.copy(alloc)?,
-        })
     }
 }
 

@@ -13,6 +13,7 @@ use Rattle.list_machine.specs.Stores.{context_seen, contexts_seen}
 use Rattle.list_machine.specs.Views.{answer}
 use Rattle.list_machine.proofs.Moves.{opened}
 
+-- the context of a number among those that are seen
 context_of-seen : (number : ℕ) (stores : List ContextStore)
     → context_of number (contexts_seen stores) ≡ option_map context_seen (find (λ (context : ContextStore). eqb context.number number) stores)
 context_of-seen number [] = refl
@@ -27,6 +28,7 @@ pub context_of-is : (number : ℕ) (stores : List ContextStore) (copied : Option
     → context_of number (contexts_seen stores) ≡ option_map context_seen copied
 context_of-is number stores copied is = context_of-seen number stores ∙ ap (option_map context_seen) (sym is)
 
+-- a live context is searched
 pub search_finds : (seen : State) (context : ContextStore) (request : SearchRequest) (it : Answer) → seen.moment ≤ context.expiry
     → it ≡ answer (context_seen context).view request 0
     → search_pit seen request (Some (context_seen context)) ≡ (seen, Found it)
@@ -36,6 +38,7 @@ search_finds seen context request it live is =
     let lives : leb seen.moment context.expiry ≡ true = grind arith in
     ap chosen lives ∙ ap replied (sym is)
 
+-- a context past its moment is missing
 pub search_misses : (seen : State) (context : ContextStore) (request : SearchRequest) → context.expiry < seen.moment
     → search_pit seen request (Some (context_seen context)) ≡ (seen, Missing)
 search_misses seen context request late =
@@ -43,6 +46,7 @@ search_misses seen context request late =
     let ends : leb seen.moment context.expiry ≡ false = grind arith in
     ap chosen ends
 
+-- where as many are live as may be, none is opened
 pub open_full : (seen : State) (keep : ℕ) (index : Index) → live_contexts seen ≡ seen.limits.pits
     → open_pit seen keep (Some index) ≡ (seen, TooMany seen.limits.pits)
 open_full seen keep index full =
@@ -50,6 +54,7 @@ open_full seen keep index full =
     let says : eqb (live_contexts seen) seen.limits.pits ≡ true = grind arith in
     ap chosen says
 
+-- else one is opened
 pub open_opens : (seen : State) (keep : ℕ) (index : Index) → live_contexts seen ≢ seen.limits.pits
     → open_pit seen keep (Some index) ≡ (opened seen keep index, Opened seen.next)
 open_opens seen keep index room =

@@ -1,22 +1,25 @@
 -- The index of a name in the list of indexes.
-use Rattle.std.proofs.Common.{◌≡◌, ◌≢◌, ℕ, ◌+◌, ◌<◌, ◌≤◌, Bool, true, false, not, cond, ltb, List, [], ◌∷◌, zero, suc, length, set, get_or, Option, Some, None, Result, Ok, Err, IfOk, sym, refl, ap, subst, ◌∙◌, arith}
+use Rattle.std.proofs.Common.{◌≡◌, ℕ, ◌+◌, ◌<◌, ◌≤◌, true, false, not, cond, ltb, List, [], ◌∷◌, zero, suc, length, map, set, get_or, slice_get, Option, Some, None, Result, Ok, Err, IfOk, sym, refl, ap, ap₂, subst, ◌∙◌, arith}
 use Rattle.std.specs.List.{All, position, position_or_len}
 use Rattle.std.specs.Str.{bytes_eq}
 use Rattle.std.proofs.lemmas.Slice.Eq.{bytes_eq-Decides}
 use Rattle.std.proofs.lemmas.List.Quantifiers.{position-Some}
 use Rattle.std.proofs.lemmas.List.{get_or-map, length-map, set-get_or}
-use Rattle.std.proofs.lemmas.Option.{none-some}
+use Rattle.std.proofs.lemmas.Option.{get_or_from_slice_get, none-some}
 use Rattle.std.proofs.Math.Seq.{map-set_same}
+use Rattle.es_types.specs.declared.fit.DocFault.{DocFault}
+use Rattle.es_types.specs.declared.mapping.Field.{Field}
+use Rattle.es_types.specs.declared.row.Op.{Op}
+use Rattle.es_types.specs.Homes.{shard_of}
 use Rattle.list_machine.specs.declared.event.Change.{Change}
-use Rattle.list_machine.specs.declared.event.Event.TheVariants.{Write, Publish, Seal}
+use Rattle.list_machine.specs.declared.event.Event.TheVariants.{Create, Write, Publish, Seal}
 use Rattle.list_machine.specs.declared.event.Reply.{Reply}
-use Rattle.list_machine.specs.declared.event.Reply.TheVariants.{Done, Wrote as WroteReply, Sealed, ShardFull}
+use Rattle.list_machine.specs.declared.event.Reply.TheVariants.{BadDoc, Done, NoIndex, Wrote as WroteReply, Sealed, ShardFull}
 use Rattle.list_machine.specs.declared.store.IndexStore.{IndexStore}
-use Rattle.list_machine.specs.declared.store.ShardStore.{ShardStore}
 use Rattle.list_machine.specs.Rows.{Shard, has_id, last_number, publish, rows_to_come}
 use Rattle.list_machine.specs.State.{Index, State, index_of, put_index}
-use Rattle.list_machine.specs.Step.{append_op, happen, is_full, op_of, publish_index, put_shard, seal, write, wrote}
-use Rattle.list_machine.specs.Stores.{AreNumbered, Turns, index_seen, indexes_seen, shard_seen, write_of}
+use Rattle.list_machine.specs.Step.{append_op, create, happen, is_full, op_of, publish_index, publish_shard, put_shard, seal, write, write_op, write_shard, wrote}
+use Rattle.list_machine.specs.Stores.{IsCountedIndex, Turns, index_seen, indexes_seen, publish_at, publish_in, shards_seen, write_at, write_by, write_in}
 
 -- the index at that place is the first of the name
 abbrev pub IsFirst : List ℕ → List IndexStore → ℕ → Type 0
@@ -24,6 +27,7 @@ IsFirst name [] at = ⊥
 IsFirst name (store ∷ stores) zero = bytes_eq store.name name ≡ true
 IsFirst name (store ∷ stores) (suc at) = (bytes_eq store.name name ≡ false) × IsFirst name stores at
 
+-- an index of the name, with none of the name before it, is the first
 first_from : (name : List ℕ) (stores : List IndexStore) (at : ℕ) (d : IndexStore) → at < length stores
     → bytes_eq (get_or stores at d).name name ≡ true → ((k : ℕ) → k < at → bytes_eq (get_or stores k d).name name ≡ false)
     → IsFirst name stores at
@@ -40,28 +44,33 @@ first_at name stores slice at d place same is some =
     (sym (ap (position (λ (index : IndexStore). bytes_eq index.name name)) same) ∙ sym is ∙ some) in
     first_from name stores at d found.0 found.1 found.2
 
+-- the first of a name stands in the list
 pub IsFirst-within : (name : List ℕ) (stores : List IndexStore) (at : ℕ) → IsFirst name stores at → at < length stores
 IsFirst-within name [] at first = absurd first
 IsFirst-within name (store ∷ stores) zero first = omega arith
 IsFirst-within name (store ∷ stores) (suc at) first =
     let less = IsFirst-within name stores at first.1 in omega arith
 
+-- and has the name
 pub IsFirst-name : (name : List ℕ) (stores : List IndexStore) (at : ℕ) (d : IndexStore) → IsFirst name stores at → (get_or stores at d).name ≡ name
 IsFirst-name name [] at d first = absurd first
 IsFirst-name name (store ∷ stores) zero d first = (bytes_eq-Decides store.name name).0 first
 IsFirst-name name (store ∷ stores) (suc at) d first = IsFirst-name name stores at d first.1
 
+-- the first of a name is what a look-up finds
 index_of-first_or : (name : List ℕ) (stores : List IndexStore) (at : ℕ) (d : IndexStore) → IsFirst name stores at
     → index_of name (indexes_seen stores) ≡ Some (index_seen (get_or stores at d))
 index_of-first_or name [] at d first = absurd first
 index_of-first_or name (store ∷ stores) zero d first = rw first refl
 index_of-first_or name (store ∷ stores) (suc at) d first = rw first.0 (index_of-first_or name stores at d first.1)
 
+-- the same for the store that was read there
 pub index_of-first : (name : List ℕ) (stores : List IndexStore) (at : ℕ) (store : IndexStore) → IsFirst name stores at → store ≡ get_or stores at store
     → index_of name (indexes_seen stores) ≡ Some (index_seen store)
 index_of-first name stores at store first is =
     index_of-first_or name stores at store first ∙ ap (λ (it : IndexStore). Some (index_seen it)) (sym is)
 
+-- where no store has the name, a look-up finds nothing
 absent : (name : List ℕ) (stores : List IndexStore) → length stores ≤ position_or_len (λ (index : IndexStore). bytes_eq index.name name) stores
     → index_of name (indexes_seen stores) ≡ None
 absent name [] all = refl
@@ -70,6 +79,7 @@ absent name (store ∷ stores) all =
     → cond b (Some (index_seen store)) (index_of name (indexes_seen stores)) ≡ None)
     [ true ↦ λ le. absurd (omega arith) | false ↦ λ le. absent name stores (omega arith) ] all
 
+-- the same, by what the look-up in a slice said
 pub index_of-none : (name : List ℕ) (stores slice : List IndexStore) (place : Option ℕ) → slice ≡ stores
     → place ≡ position (λ (index : IndexStore). bytes_eq index.name name) slice → place ≡ None
     → index_of name (indexes_seen stores) ≡ None
@@ -78,6 +88,7 @@ index_of-none name stores slice place same is none =
     sym (ap (position (λ (index : IndexStore). bytes_eq index.name name)) same) ∙ sym is ∙ none in
     absent name stores (grind arith)
 
+-- a store of the name goes where the first of the name stands
 pub put_index-first : (name : List ℕ) (stores : List IndexStore) (at : ℕ) (new : IndexStore) → IsFirst name stores at → new.name ≡ name
     → put_index (index_seen new) (indexes_seen stores) ≡ indexes_seen (set stores at new)
 put_index-first name [] at new first named = absurd first
@@ -94,101 +105,117 @@ pub record IsFound (name : List ℕ) (stores : List IndexStore) (at : ℕ) (stor
   pub first : IsFirst name stores at
   pub is : store ≡ get_or stores at store
 
+-- a found store has the name
 pub IsFound-name : {name : List ℕ} {stores : List IndexStore} {at : ℕ} {store : IndexStore} → IsFound name stores at store → store.name ≡ name
 IsFound-name {name} {stores} {at} {store} found =
     ap (λ (it : IndexStore). it.name) found.is ∙ IsFirst-name name stores at store found.first
 
--- the indexes, at a state, once the shard of the found index was replaced
-pub put_shard-found : {name : List ℕ} {stores : List IndexStore} {at : ℕ} {store : IndexStore} → IsFound name stores at store
-    → (new : ShardStore) (state : State)
-    → put_shard (record state { indexes = indexes_seen stores }) (index_seen store) 0 (shard_seen new)
-    ≡ record state { indexes = indexes_seen (set stores at (record store { shard = new })) }
-put_shard-found {name} {stores} {at} {store} found new state =
-    ap (λ (them : List Index). record state { indexes = them })
-    (put_index-first name stores at (record store { shard = new }) found.first (IsFound-name found))
+-- nothing changes where the found index is put in its own place
+put_index-same : {name : List ℕ} {stores : List IndexStore} {at : ℕ} {store : IndexStore} → IsFound name stores at store
+    → put_index (index_seen store) (indexes_seen stores) ≡ indexes_seen stores
+put_index-same {name} {stores} {at} {store} found =
+    put_index-first name stores at store found.first (IsFound-name found)
+    ∙ ap (λ (it : IndexStore). indexes_seen (set stores at it)) found.is
+    ∙ ap indexes_seen (set-get_or stores at store)
 
--- nothing changes where the shard is put back as it was
-put_shard-same : {name : List ℕ} {stores : List IndexStore} {at : ℕ} {store : IndexStore} → IsFound name stores at store
-    → (state : State)
-    → put_shard (record state { indexes = indexes_seen stores }) (index_seen store) 0 (shard_seen store.shard)
-    ≡ record state { indexes = indexes_seen stores }
-put_shard-same {name} {stores} {at} {store} found state =
-    put_shard-found found store.shard state
-    ∙ ap (λ (it : IndexStore). record state { indexes = indexes_seen (set stores at it) }) found.is
-    ∙ ap (λ (them : List IndexStore). record state { indexes = indexes_seen them }) (set-get_or stores at store)
+-- a store in the place of the found one, of its name and its mapping
+pub record IsLike (store new : IndexStore) : Type 0 where
+  pub name : new.name ≡ store.name
+  pub mapping : new.mapping ≡ store.mapping
 
-turn : {name : List ℕ} {stores : List IndexStore} {at : ℕ} {store : IndexStore} → IsFound name stores at store
-    → (state : State) (b : Bool) (changed : Shard) (kept_reply changed_reply : Reply)
-    → ◌≡◌ {A = State × Reply} (cond b (record state { indexes = indexes_seen stores }, kept_reply)
-    (put_shard (record state { indexes = indexes_seen stores }) (index_seen store) 0 changed, changed_reply)) (
-      put_shard (record state { indexes = indexes_seen stores }) (index_seen store) 0
-          (cond b (shard_seen store.shard) changed),
-      cond b kept_reply changed_reply,
-    )
-turn {name} {stores} {at} {store} found state true changed kept_reply changed_reply =
-    let with_reply : State → State × Reply = λ it. (it, kept_reply) in
-    ap with_reply (sym (put_shard-same found state))
-turn {name} {stores} {at} {store} found state false changed kept_reply changed_reply = refl
+-- the state with these shards in an index
+abbrev put_shards : State → Index → List Shard → State
+put_shards state index shards = record state { indexes = put_index (record index { shards = shards }) state.indexes }
 
-cond-same : {X : Type 0} (b : Bool) (x : X) → cond b x x ≡ x
-cond-same true x = refl
-cond-same false x = refl
+-- what becomes of the indexes where an event puts the shards of the found one
+turned : {name : List ℕ} {stores : List IndexStore} {at : ℕ} {store : IndexStore} → IsFound name stores at store
+    → (new : IndexStore) → IsLike store new → (f : State → Option Index → State × Reply) (reply : Reply) (state : State)
+    → f (record state { indexes = indexes_seen stores }) (Some (index_seen store)) ≡ (put_shards (record state { indexes = indexes_seen stores }) (index_seen store) (shards_seen new.shards.items), reply)
+    → f (record state { indexes = indexes_seen stores }) (index_of name (indexes_seen stores)) ≡ (record state { indexes = indexes_seen (set stores at new) }, reply)
+turned {name} {stores} {at} {store} found new like f reply state acts =
+    let seen : State = record state { indexes = indexes_seen stores } in
+    let with_indexes : List Index → State × Reply = λ them. (record state { indexes = them }, reply) in
+    let puts : List ℕ → List Field → State × Reply =
+    λ named mapped. with_indexes (put_index (record { name = named; mapping = mapped; shards = shards_seen new.shards.items }) (indexes_seen stores)) in
+    ap (f seen) (index_of-first name stores at store found.first found.is)
+    ∙ acts
+    ∙ ap₂ puts (sym like.name) (sym like.mapping)
+    ∙ ap with_indexes (put_index-first name stores at new found.first (like.name ∙ IsFound-name found))
 
-cond-pair : {X Y : Type 0} (b : Bool) (x u : X) (y v : Y) → ◌≡◌ {A = X × Y} (cond b (x, y) (u, v)) (cond b x u, cond b y v)
-cond-pair true x u y v = refl
-cond-pair false x u y v = refl
+-- a list that gets at a place what stands there is the same
+set_same : {X : Type 0} (xs : List X) (k : ℕ) (x : X) → slice_get xs k ≡ Some x → set xs k x ≡ xs
+set_same xs k x e = ap (set xs k) (sym (get_or_from_slice_get xs k x x e)) ∙ set-get_or xs k x
+
+-- a write to a shard, or to none, in the words of `write_at`
+write_at_is : (seen : State) (index : Index) (id : List ℕ) (change : Change) (op : Op) → put_index index seen.indexes ≡ seen.indexes
+    → (o : Option Shard) → slice_get index.shards (shard_of id (length index.shards)) ≡ o
+    → ◌≡◌ {A = State × Reply} (write_shard seen index id change op o) (put_shards seen index (write_at index.shards id change op o).0, (write_at index.shards id change op o).1)
+write_at_is seen index id change op same None e =
+    let with_reply : List Index → State × Reply = λ them. (record seen { indexes = them }, NoIndex) in ap with_reply (sym same)
+write_at_is seen index id change op same (Some shard) e =
+    let at = shard_of id (length index.shards) in
+    let done : Reply = WroteReply (wrote change (has_id id (rows_to_come shard))) (last_number shard + 1) in
+    let with_reply : List Index → State × Reply = λ them. (record seen { indexes = them }, ShardFull) in
+    let with_shards : List Shard → State × Reply = λ them. (put_shards seen index them, ShardFull) in
+    elim (is_full shard) as (λ b. ◌≡◌ {A = State × Reply} (cond {A = State × Reply} b (seen, ShardFull) (put_shard seen index at (append_op shard op), done)) (
+      put_shards seen index (set index.shards at (cond {A = Shard × Reply} b (shard, ShardFull) (append_op shard op, done)).0),
+      (cond {A = Shard × Reply} b (shard, ShardFull) (append_op shard op, done)).1,
+    )) [ true ↦ ap with_reply (sym same) ∙ ap with_shards (sym (set_same index.shards at shard e)) | false ↦ refl ]
+
+-- a write of an operation, or of a document that is refused, in the words of `write_by`
+write_by_is : (seen : State) (index : Index) (id : List ℕ) (change : Change) → put_index index seen.indexes ≡ seen.indexes → (r : Result Op DocFault)
+    → ◌≡◌ {A = State × Reply} (write_op seen index id change r) (put_shards seen index (write_by index.shards id change r).0, (write_by index.shards id change r).1)
+write_by_is seen index id change same (Err fault) =
+    let with_reply : List Index → State × Reply = λ them. (record seen { indexes = them }, BadDoc fault) in ap with_reply (sym same)
+write_by_is seen index id change same (Ok op) =
+    write_at_is seen index id change op same (slice_get index.shards (shard_of id (length index.shards))) refl
 
 -- a write at the found index
 write_turns : {name : List ℕ} {stores : List IndexStore} {at : ℕ} {store : IndexStore} → IsFound name stores at store
-    → (id : List ℕ) (change : Change) (new : ShardStore) (reply : Reply)
-    → write_of (shard_seen store.shard) id change ≡ (shard_seen new, reply)
-    → Turns (λ state. happen state (Write name id change)) stores (set stores at (record store { shard = new })) reply
-write_turns {name} {stores} {at} {store} found id change new reply is state =
-    let shard : Shard = shard_seen store.shard in
+    → (id : List ℕ) (change : Change) (new : IndexStore) → IsLike store new → (reply : Reply)
+    → write_in store.mapping (shards_seen store.shards.items) id change ≡ (shards_seen new.shards.items, reply)
+    → Turns (λ state. happen state (Write name id change)) stores (set stores at new) reply
+write_turns {name} {stores} {at} {store} found id change new like reply is state =
     let seen : State = record state { indexes = indexes_seen stores } in
-    let result : Reply = WroteReply (wrote change (has_id id (rows_to_come shard))) (last_number shard + 1) in
-    let put : Shard × Reply → State × Reply = λ pair. (put_shard seen (index_seen store) 0 pair.0, pair.1) in
-    let with_reply : State → State × Reply = λ it. (it, reply) in
-    ap (λ it. write seen id change it) (index_of-first name stores at store found.first found.is)
-    ∙ turn found state (is_full shard) (append_op shard (op_of id change)) ShardFull result
-    ∙ ap put (sym (cond-pair (is_full shard) shard (append_op shard (op_of id change)) ShardFull result) ∙ is)
-    ∙ ap with_reply (put_shard-found found new state)
+    let put : List Shard × Reply → State × Reply = λ pair. (put_shards seen (index_seen store) pair.0, pair.1) in
+    turned found new like (λ at it. write at id change it) reply state
+    (write_by_is seen (index_seen store) id change (put_index-same found) (op_of store.mapping id change) ∙ ap put is)
 
+-- the same by the call's result
 pub write_done : {name : List ℕ} {stores : List IndexStore} {at : ℕ} {store : IndexStore} → IsFound name stores at store
-    → (id : List ℕ) (change : Change) (new : ShardStore) {E : Type 0} (r : Result Reply E)
-    → IfOk r (λ reply. write_of (shard_seen store.shard) id change ≡ (shard_seen new, reply))
-    → IfOk r (Turns (λ state. happen state (Write name id change)) stores (set stores at (record store { shard = new })))
-write_done found id change new (Ok reply) is = write_turns found id change new reply is
-write_done found id change new (Err e) is = tt
+    → (id : List ℕ) (change : Change) (new : IndexStore) → IsLike store new → {E : Type 0} (r : Result Reply E)
+    → IfOk r (λ reply. write_in store.mapping (shards_seen store.shards.items) id change ≡ (shards_seen new.shards.items, reply))
+    → IfOk r (Turns (λ state. happen state (Write name id change)) stores (set stores at new))
+write_done found id change new like (Ok reply) is = write_turns found id change new like reply is
+write_done found id change new like (Err e) is = tt
 
+-- a publish of a shard, or of none, in the words of `publish_at`
+publish_at_is : (seen : State) (index : Index) (at upto : ℕ) → put_index index seen.indexes ≡ seen.indexes
+    → (o : Option Shard) → slice_get index.shards at ≡ o
+    → ◌≡◌ {A = State × Reply} (publish_shard seen index at upto o) (put_shards seen index (publish_at index.shards at upto o), Done)
+publish_at_is seen index at upto same None e =
+    let with_reply : List Index → State × Reply = λ them. (record seen { indexes = them }, Done) in ap with_reply (sym same)
+publish_at_is seen index at upto same (Some shard) e =
+    let with_reply : List Index → State × Reply = λ them. (record seen { indexes = them }, Done) in
+    let with_shards : List Shard → State × Reply = λ them. (put_shards seen index them, Done) in
+    elim (ltb (last_number shard) upto) as (λ b. ◌≡◌ {A = State × Reply} (cond {A = State × Reply} b (seen, Done) (put_shard seen index at (publish shard upto), Done))
+    (put_shards seen index (set index.shards at (cond b shard (publish shard upto))), Done))
+    [ true ↦ ap with_reply (sym same) ∙ ap with_shards (sym (set_same index.shards at shard e)) | false ↦ refl ]
+
+-- a publish at the found index
 pub publish_turns : {name : List ℕ} {stores : List IndexStore} {at : ℕ} {store : IndexStore} → IsFound name stores at store
-    → (upto : ℕ) (new : ShardStore)
-    → shard_seen new ≡ cond (ltb (last_number (shard_seen store.shard)) upto) (shard_seen store.shard) (publish (shard_seen store.shard) upto)
-    → Turns (λ state. happen state (Publish name 0 upto)) stores (set stores at (record store { shard = new })) Done
-publish_turns {name} {stores} {at} {store} found upto new is state =
-    let shard : Shard = shard_seen store.shard in
+    → (shard upto : ℕ) (new : IndexStore) → IsLike store new
+    → shards_seen new.shards.items ≡ publish_in (shards_seen store.shards.items) shard upto
+    → Turns (λ state. happen state (Publish name shard upto)) stores (set stores at new) Done
+publish_turns {name} {stores} {at} {store} found shard upto new like is state =
     let seen : State = record state { indexes = indexes_seen stores } in
-    let late : Bool = ltb (last_number shard) upto in
-    let with_done : State → State × Reply = λ it. (it, Done) in
-    let with_reply : Reply → State × Reply = λ it. (put_shard seen (index_seen store) 0 (cond late shard (publish shard upto)), it) in
-    let put : Shard → State × Reply = λ it. (put_shard seen (index_seen store) 0 it, Done) in
-    ap (λ it. publish_index seen 0 upto it) (index_of-first name stores at store found.first found.is)
-    ∙ turn found state late (publish shard upto) Done Done
-    ∙ ap with_reply (cond-same late Done)
-    ∙ ap put (sym is)
-    ∙ ap with_done (put_shard-found found new state)
+    let put : List Shard → State × Reply = λ them. (put_shards seen (index_seen store) them, Done) in
+    turned found new like (λ at it. publish_index at shard upto it) Done state
+    (publish_at_is seen (index_seen store) shard upto (put_index-same found) (slice_get (shards_seen store.shards.items) shard) refl ∙ ap put (sym is))
 
--- a publish of a shard that no index has
-pub publish_misses : (name : List ℕ) (stores : List IndexStore) (shard upto : ℕ) → shard ≢ 0 → (state : State)
-    → publish_index state shard upto (index_of name (indexes_seen stores)) ≡ (state, Done)
-publish_misses name stores zero upto other state = absurd (other refl)
-publish_misses name [] (suc shard) upto other state = refl
-publish_misses name (store ∷ stores) (suc shard) upto other state =
-    elim (bytes_eq store.name name) as (λ b. ◌≡◌ {A = State × Reply} (publish_index state (suc shard) upto (cond b (Some (index_seen store)) (index_of name (indexes_seen stores)))) (state, Done))
-    [ true ↦ refl | false ↦ publish_misses name stores (suc shard) upto other state ]
-
+-- a seal of the found index answers the last number of each shard
 pub seal_is : {name : List ℕ} {stores : List IndexStore} {at : ℕ} {store : IndexStore} → IsFound name stores at store
-    → (numbers : List ℕ) → numbers ≡ last_number (shard_seen store.shard) ∷ []
+    → (numbers : List ℕ) → numbers ≡ map last_number (shards_seen store.shards.items)
     → (state : State) → happen (record state { indexes = indexes_seen stores }) (Seal name) ≡ (record state { indexes = indexes_seen stores }, Sealed numbers)
 seal_is {name} {stores} {at} {store} found numbers is state =
     let seen : State = record state { indexes = indexes_seen stores } in
@@ -196,25 +223,24 @@ seal_is {name} {stores} {at} {store} found numbers is state =
     ap (λ it. seal seen it) (index_of-first name stores at store found.first found.is)
     ∙ ap replied (sym is)
 
--- the number of the last operation of the found index
-pub numbered_at : {name : List ℕ} {stores : List IndexStore} {at : ℕ} {store : IndexStore} → IsFound name stores at store
-    → (n : ℕ) → AreNumbered n (indexes_seen stores) → last_number (shard_seen store.shard) ≤ n
-numbered_at {name} {stores} {at} {store} found n numbers =
-    let P : Index → Type 0 = λ index. All (λ (shard : Shard). last_number shard ≤ n) index.shards in
+-- the found index has what all have
+pub counted_at : {name : List ℕ} {stores : List IndexStore} {at : ℕ} {store : IndexStore} → IsFound name stores at store
+    → (n : ℕ) → All (IsCountedIndex n) (indexes_seen stores) → IsCountedIndex n (index_seen store)
+counted_at {name} {stores} {at} {store} found n all =
+    let P : Index → Type 0 = IsCountedIndex n in
     let Q : IndexStore → Type 0 = λ it. P (index_seen it) in
     let less : at < length stores = IsFirst-within name stores at found.first in
-    let here : P (get_or (indexes_seen stores) at (index_seen store)) = numbers at (index_seen store) (omega (arith, length-map stores index_seen)) in
-    let there : P (index_seen (get_or stores at store)) = subst P (get_or-map index_seen stores at store (index_seen store) less) here in
-    let it : Q store = subst Q (sym found.is) there in
-    it 0 (shard_seen store.shard) (omega arith)
+    let here : P (get_or (indexes_seen stores) at (index_seen store)) = all at (index_seen store) (omega (arith, length-map stores index_seen)) in
+    subst Q (sym found.is) (subst P (get_or-map index_seen stores at store (index_seen store) less) here)
 
--- nothing is seen where the shard is seen as it was
+-- nothing is seen where the shards are seen as they were
 pub indexes_seen-same : {name : List ℕ} {stores : List IndexStore} {at : ℕ} {store : IndexStore} → IsFound name stores at store
-    → (new : ShardStore) → shard_seen new ≡ shard_seen store.shard
-    → indexes_seen (set stores at (record store { shard = new })) ≡ indexes_seen stores
-indexes_seen-same {name} {stores} {at} {store} found new same =
-    map-set_same index_seen stores at (record store { shard = new }) store
-    (ap (λ (shard : Shard). record { name = store.name; shards = shard ∷ [] }) same ∙ ap index_seen found.is)
+    → (new : IndexStore) → IsLike store new → shards_seen new.shards.items ≡ shards_seen store.shards.items
+    → indexes_seen (set stores at new) ≡ indexes_seen stores
+indexes_seen-same {name} {stores} {at} {store} found new like same =
+    let index : List ℕ → List Field → List Shard → Index = λ named mapped shards. record { name = named; mapping = mapped; shards = shards } in
+    map-set_same index_seen stores at new store
+    (ap₂ (λ named mapped. index named mapped (shards_seen new.shards.items)) like.name like.mapping ∙ ap (index store.name store.mapping) same ∙ ap index_seen found.is)
 
 -- found by a look-up in a slice
 pub found_at : (name : List ℕ) (stores slice : List IndexStore) (at : ℕ) (store : IndexStore) (place : Option ℕ) → slice ≡ stores
@@ -233,3 +259,11 @@ some_index name (store ∷ stores) slice at place same is some = (
   index_seen (get_or (store ∷ stores) at store),
   index_of-first_or name (store ∷ stores) at store (first_at name (store ∷ stores) slice at store place same is some),
 )
+
+-- where no index has the name a making goes on
+pub create_done : (stores new : List IndexStore) (name : List ℕ) (shards : ℕ) (mapping : List Field) → index_of name (indexes_seen stores) ≡ None
+    → {E : Type 0} (r : Result Reply E) → IfOk r (Turns (λ state. create state name shards mapping None) stores new)
+    → IfOk r (Turns (λ state. happen state (Create name shards mapping)) stores new)
+create_done stores new name shards mapping free (Ok reply) turns =
+    λ state. ap (create (record state { indexes = indexes_seen stores }) name shards mapping) free ∙ turns state
+create_done stores new name shards mapping free (Err e) turns = tt

@@ -1,10 +1,13 @@
 pub mod RowLemmas
 pub mod PlaceLemmas
 pub mod IndexLemmas
+pub mod StoreLemmas
 pub mod ContextLemmas
 pub mod CountLemmas
 pub mod ShardLemmas
 pub mod Moves
+pub mod IndexMoves
+pub mod Homes
 pub mod Sound
 pub mod Runs
 pub mod Contexts

@@ -4,7 +4,7 @@ use Rattle.list_machine.specs.declared.event.Limits.{Limits}
 use Rattle.list_machine.specs.State.{State, Context, start, view_of}
 use Rattle.list_machine.specs.Step.{step}
 use Rattle.list_machine.specs.Run.{History, run, state_of}
-use Rattle.list_machine.proofs.Moves.{Keeps, Moves, entry_moves}
+use Rattle.list_machine.proofs.Moves.{Keeps, MovesContexts, step_moves}
 
 -- contexts are only added, the next number never falls, and the limits and the moment are kept
 pub record Later (old new : State) : Type 0 where
@@ -14,10 +14,9 @@ pub record Later (old new : State) : Type 0 where
   pub kept : Keeps old new
 
 -- a move goes on
-moves_later : (old new : State) → Moves (λ _. Unit {0}) old new → Later old new
-moves_later old new (k, inl m) = record { more = []; contexts = m.contexts ∙ sym (append-nil old.contexts); next = omega (arith, m.next); kept = k }
-moves_later old new (k, inr (inl m)) = record { more = []; contexts = m.contexts ∙ sym (append-nil old.contexts); next = omega (arith, m.next); kept = k }
-moves_later old new (k, inr (inr m)) =
+moves_later : (old new : State) → Keeps old new → MovesContexts old new → Later old new
+moves_later old new k (inl m) = record { more = []; contexts = m.contexts ∙ sym (append-nil old.contexts); next = omega (arith, m.next); kept = k }
+moves_later old new k (inr m) =
     record { more = record { number = old.next; view = view_of m.index; expiry = m.expiry } ∷ []; contexts = m.contexts; next = omega (arith, m.next); kept = k }
 
 -- one after the other
@@ -35,7 +34,7 @@ pub run_later : (history : History) (state : State) → Later state (run state h
 run_later [] state =
     record { more = []; contexts = sym (append-nil state.contexts); next = omega arith; kept = record { limits = refl; moment = omega arith } }
 run_later (entry ∷ history) state =
-    later_on state (step state entry).0 (run (step state entry).0 history) (moves_later state (step state entry).0 (entry_moves state entry)) (run_later history (step state entry).0)
+    later_on state (step state entry).0 (run (step state entry).0 history) (moves_later state (step state entry).0 (step_moves state entry).kept (step_moves state entry).contexts) (run_later history (step state entry).0)
 
 -- a run in two parts
 pub run-append : (first second : History) (state : State) → run state (first ++ second) ≡ run (run state first) second

@@ -9,8 +9,8 @@ use Rattle.std.proofs.lemmas.List.Filters.{length-filter_both}
 use Rattle.es_types.specs.declared.row.Row.{Row}
 use Rattle.es_types.specs.declared.row.Op.{Op}
 use Rattle.es_types.specs.declared.row.Op.TheVariants.{Put, Remove}
+use Rattle.es_types.specs.declared.row.Value.{Value}
 use Rattle.list_machine.specs.Rows.{Shard, without, apply, apply_all, last_number, publish}
-use Rattle.list_machine.specs.Objects.{AreObjects, IsObject, PutsObjectOp}
 use Rattle.list_machine.specs.State.{IsSoundShard}
 use Rattle.list_machine.specs.Step.{append_op, is_full}
 
@@ -75,18 +75,22 @@ length-apply_all [] rows base = omega arith
 length-apply_all (op ∷ ops) rows base =
     omega (arith, length-apply_all ops (apply rows (base + 1) op) (base + 1), length-apply op rows (base + 1))
 
--- an operation keeps the rows objects
-apply_objects : (op : Op) (rows : List Row) (number : ℕ) → PutsObjectOp op → AreObjects rows → AreObjects (apply rows number op)
-apply_objects (Put id source values) rows number o h =
-    All-push (λ (row : Row). IsObject row.source) (without id rows) (record { seq = number; id = id; source = source; values = values })
-    (All-filter (λ (row : Row). not (bytes_eq row.id id)) (λ (row : Row). IsObject row.source) rows h) o
-apply_objects (Remove id) rows number o h = All-filter (λ (row : Row). not (bytes_eq row.id id)) (λ (row : Row). IsObject row.source) rows h
+-- what holds of each operation holds of the rows that it makes
+abbrev pub Makes : (Op → Type 0) → (Row → Type 0) → Type 0
+Makes O P = (number : ℕ) (id source : List ℕ) (values : List Value) → O (Put id source values) → P (record { seq = number; id = id; source = source; values = values })
 
--- operations keep the rows objects
-pub apply_all_objects : (ops : List Op) (rows : List Row) (base : ℕ) → All PutsObjectOp ops → AreObjects rows → AreObjects (apply_all rows base ops)
-apply_all_objects [] rows base os h = h
-apply_all_objects (op ∷ ops) rows base os h =
-    apply_all_objects ops (apply rows (base + 1) op) (base + 1) (All-tail PutsObjectOp op ops os) (apply_objects op rows (base + 1) (All-head PutsObjectOp op ops os) h)
+-- an operation keeps what holds of all rows
+apply_All : (O : Op → Type 0) (P : Row → Type 0) → Makes O P → (op : Op) (rows : List Row) (number : ℕ) → O op → All P rows → All P (apply rows number op)
+apply_All O P makes (Put id source values) rows number o h =
+    All-push P (without id rows) (record { seq = number; id = id; source = source; values = values })
+    (All-filter (λ (row : Row). not (bytes_eq row.id id)) P rows h) (makes number id source values o)
+apply_All O P makes (Remove id) rows number o h = All-filter (λ (row : Row). not (bytes_eq row.id id)) P rows h
+
+-- operations keep what holds of all rows
+apply_all_All : (O : Op → Type 0) (P : Row → Type 0) → Makes O P → (ops : List Op) (rows : List Row) (base : ℕ) → All O ops → All P rows → All P (apply_all rows base ops)
+apply_all_All O P makes [] rows base os h = h
+apply_all_All O P makes (op ∷ ops) rows base os h =
+    apply_all_All O P makes ops (apply rows (base + 1) op) (base + 1) (All-tail O op ops os) (apply_All O P makes op rows (base + 1) (All-head O op ops os) h)
 
 -- the shard after the operations up to a number that was not reached before
 abbrev pub published : Shard → ℕ → Shard
@@ -121,12 +125,12 @@ publish_sound shard upto l h = publish_case IsSoundShard shard upto h next
           few = omega (arith, h.few);
         }
 
--- a publish keeps objects
-pub publish_objects : (shard : Shard) (upto : ℕ) → AreObjects shard.rows → All PutsObjectOp shard.pending → AreObjects (publish shard upto).rows × All PutsObjectOp (publish shard upto).pending
-publish_objects shard upto rows pending =
-    publish_case (λ s. AreObjects s.rows × All PutsObjectOp s.pending) shard upto (rows, pending) (λ _. (
-      apply_all_objects (take (upto - shard.base) shard.pending) shard.rows shard.base (All-take PutsObjectOp (upto - shard.base) shard.pending pending) rows,
-      All-drop PutsObjectOp (upto - shard.base) shard.pending pending,
+-- a publish keeps what holds of all rows and of all waiting operations
+pub publish_All : (O : Op → Type 0) (P : Row → Type 0) → Makes O P → (shard : Shard) (upto : ℕ) → All P shard.rows → All O shard.pending → All P (publish shard upto).rows × All O (publish shard upto).pending
+publish_All O P makes shard upto rows pending =
+    publish_case (λ s. All P s.rows × All O s.pending) shard upto (rows, pending) (λ _. (
+      apply_all_All O P makes (take (upto - shard.base) shard.pending) shard.rows shard.base (All-take O (upto - shard.base) shard.pending pending) rows,
+      All-drop O (upto - shard.base) shard.pending pending,
     ))
 
 -- one more waiting operation keeps a shard sound that is not full

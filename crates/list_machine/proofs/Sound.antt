@@ -1,22 +1,38 @@
 -- Each state that the machine comes to is sound.
-use Rattle.std.proofs.Common.{◌≡◌, ℕ, ◌+◌, ◌<◌, ◌≤◌, cond, inl, inr, List, [], ◌∷◌, ◌++◌, length, map, All, AllPairs, bytes_eq, count_by, refl, sym, ap, ◌∙◌, subst, subst₂, arith, length-set}
+use Rattle.std.proofs.Common.{◌≡◌, ℕ, ◌+◌, ◌<◌, ◌≤◌, cond, inl, inr, List, [], ◌∷◌, ◌++◌, map, All, AllPairs, bytes_eq, count_by, Result, Ok, Err, refl, sym, ap, subst, subst₂, arith}
 use Rattle.std.proofs.lemmas.List.Elements.{All-nil, All-cons, All-head, All-tail, All-push, All-weaker, All-map}
 use Rattle.std.proofs.lemmas.List.Quantifiers.{all_pairs_push}
 use Rattle.std.proofs.lemmas.List.Sums.{sum_by-le-sum_by, sum_by_push}
 use Rattle.std.proofs.lemmas.Bool.Decides.{nat_tests}
+use Rattle.es_types.specs.declared.fit.DocFault.{DocFault}
 use Rattle.es_types.specs.declared.row.Op.{Op}
+use Rattle.es_types.specs.declared.row.Op.TheVariants.{Put as PutOp, Remove as RemoveOp}
+use Rattle.es_types.specs.declared.row.Row.{Row}
+use Rattle.es_types.specs.declared.row.Value.{Value}
+use Rattle.es_types.specs.Fields.{fit}
 use Rattle.list_machine.specs.declared.event.Entry.{Entry}
 use Rattle.list_machine.specs.declared.event.Limits.{Limits}
 use Rattle.list_machine.specs.declared.event.Event.{Event}
-use Rattle.list_machine.specs.declared.event.Event.TheVariants.{Write, Seal, Publish, OpenPit, Search, Quiet}
+use Rattle.list_machine.specs.declared.event.Event.TheVariants.{Create, Write, Seal, Publish, OpenPit, Search, Quiet}
 use Rattle.list_machine.specs.declared.event.Change.TheVariants.{Put, Remove}
 use Rattle.list_machine.specs.Rows.{Shard}
-use Rattle.list_machine.specs.Objects.{AreObjects, PutsObjectOp}
-use Rattle.list_machine.specs.State.{State, Index, Context, IsSoundShard, IsSound, HasObjects, empty_shard, docs, start, view_of, is_live, live_contexts}
-use Rattle.list_machine.specs.Step.{step}
+use Rattle.list_machine.specs.Objects.{AreObjects, IsObject, PutsObjectOp}
+use Rattle.list_machine.specs.State.{AreHomes, State, Index, Context, IsSoundShard, IsSound, HasObjects, empty_shard, docs, start, view_of, is_live, live_contexts}
+use Rattle.list_machine.specs.Step.{put_op, step}
 use Rattle.list_machine.specs.Run.{History, run, state_of, PutsObject}
-use Rattle.list_machine.proofs.ShardLemmas.{publish_sound, append_sound, publish_objects}
-use Rattle.list_machine.proofs.Moves.{find_All, Changed, Keeps, Moves, OfEvent, step_moves, entry_moves, moves_indexes, moves_shards}
+use Rattle.list_machine.proofs.ShardLemmas.{publish_sound, append_sound, publish_All}
+use Rattle.list_machine.proofs.Moves.{find_All, Changed, IsOpOf, Keeps, Moves, MovesContexts, made, step_moves, moves_shards}
+use Rattle.list_machine.proofs.IndexMoves.{moves_few, moves_names}
+use Rattle.list_machine.proofs.Homes.{made_homes, moves_homes}
+
+-- the empty shard is sound
+empty_sound : IsSoundShard empty_shard
+empty_sound = record {
+  ids_differ = λ i j d a b. absurd (omega arith);
+  rising = λ i j d a b. absurd (omega arith);
+  applied = λ k d l. absurd (omega arith);
+  few = omega arith;
+}
 
 -- a changed shard is sound
 changed_sound : (Q : Op → Type 0) (old new : Shard) → Changed Q old new → IsSoundShard old → IsSoundShard new
@@ -37,10 +53,9 @@ push_context contexts next context e h =
     }
 
 -- a move keeps the contexts sound
-moves_contexts : (Q : Op → Type 0) (old new : State) → Moves Q old new → SoundContexts old.contexts old.next → SoundContexts new.contexts new.next
-moves_contexts Q old new (_, inl m) h = subst₂ SoundContexts (sym m.contexts) (sym m.next) h
-moves_contexts Q old new (_, inr (inl m)) h = subst₂ SoundContexts (sym m.contexts) (sym m.next) h
-moves_contexts Q old new (_, inr (inr m)) h =
+moves_contexts : (old new : State) → MovesContexts old new → SoundContexts old.contexts old.next → SoundContexts new.contexts new.next
+moves_contexts old new (inl m) h = subst₂ SoundContexts (sym m.contexts) (sym m.next) h
+moves_contexts old new (inr m) h =
     subst₂ SoundContexts (sym m.contexts) (sym m.next) (push_context old.contexts old.next (record { number = old.next; view = view_of m.index; expiry = m.expiry }) refl h)
 
 -- as time goes on, fewer are live
@@ -60,51 +75,45 @@ live_before old new k h =
     omega (arith, live_later old.contexts old.moment new.moment k.moment, h, ap (λ (limits : Limits). limits.pits) k.limits)
 
 -- no more are live than may be, once a move was made
-moves_limited : (Q : Op → Type 0) (old new : State) → Moves Q old new → live_contexts old ≤ old.limits.pits → live_contexts new ≤ new.limits.pits
-moves_limited Q old new (k, inl m) h = subst (λ contexts. count_by (is_live new.moment) contexts ≤ new.limits.pits) (sym m.contexts) (live_before old new k h)
-moves_limited Q old new (k, inr (inl m)) h = subst (λ contexts. count_by (is_live new.moment) contexts ≤ new.limits.pits) (sym m.contexts) (live_before old new k h)
-moves_limited Q old new (k, inr (inr m)) h =
+moves_limited : (old new : State) → Keeps old new → MovesContexts old new → live_contexts old ≤ old.limits.pits → live_contexts new ≤ new.limits.pits
+moves_limited old new k (inl m) h = subst (λ contexts. count_by (is_live new.moment) contexts ≤ new.limits.pits) (sym m.contexts) (live_before old new k h)
+moves_limited old new k (inr m) h =
     let context : Context = record { number = old.next; view = view_of m.index; expiry = m.expiry } in
     subst (λ contexts. count_by (is_live new.moment) contexts ≤ new.limits.pits) (sym m.contexts)
     (omega (arith, live_before old new k h, live_push new.moment old.contexts context, m.room, ap (λ (limits : Limits). limits.pits) k.limits))
 
 -- a move keeps a state sound
-moves_sound : (Q : Op → Type 0) (old new : State) → Moves Q old new → IsSound old → IsSound new
-moves_sound Q old new m h =
-    let contexts = moves_contexts Q old new m (record { issued = h.issued; numbers_differ = h.numbers_differ }) in
+moves_sound : (event : Event) (old new : State) → Moves event old new → IsSound old → IsSound new
+moves_sound event old new m h =
+    let contexts = moves_contexts old new m.contexts (record { issued = h.issued; numbers_differ = h.numbers_differ }) in
     record {
-      shards = moves_shards Q IsSoundShard IsSoundShard (λ shard sound. sound) (changed_sound Q) old new m h.shards;
-      one_shard = moves_indexes Q (λ (index : Index). length index.shards ≡ 1) (λ (index : Index). length index.shards ≡ 1) (λ index one. one) (λ index at shard changed has changes one. length-set index.shards at changed ∙ one) old new m h.one_shard;
+      shards = moves_shards event IsSoundShard IsSoundShard (λ shard sound. sound) (changed_sound (IsOpOf event)) empty_sound old.indexes new.indexes m.indexes h.shards;
+      homes = moves_homes event old.indexes new.indexes m.indexes h.homes;
+      names_differ = moves_names event old.indexes new.indexes m.indexes h.names_differ;
+      few = moves_few event old.indexes new.indexes m.indexes h.few;
       issued = contexts.issued;
       numbers_differ = contexts.numbers_differ;
-      limited = moves_limited Q old new m h.limited;
+      limited = moves_limited old new m.kept m.contexts h.limited;
     }
 
 -- a step keeps a state sound
 pub step_sound : (state : State) (entry : Entry) → IsSound state → IsSound (step state entry).0
-step_sound state entry h = moves_sound (λ _. Unit {0}) state (step state entry).0 (entry_moves state entry) h
+step_sound state entry h = moves_sound entry.event state (step state entry).0 (step_moves state entry) h
 
 -- a run keeps a state sound
 pub run_sound : (history : History) (state : State) → IsSound state → IsSound (run state history)
 run_sound [] state h = h
 run_sound (entry ∷ history) state h = run_sound history (step state entry).0 (step_sound state entry h)
 
--- the empty shard is sound
-empty_sound : IsSoundShard empty_shard
-empty_sound = record {
-  ids_differ = λ i j d a b. absurd (omega arith);
-  rising = λ i j d a b. absurd (omega arith);
-  applied = λ k d l. absurd (omega arith);
-  few = omega arith;
-}
-
 -- the first state is sound
-start_sound : (limits : Limits) → IsSound (start limits)
+pub start_sound : (limits : Limits) → IsSound (start limits)
 start_sound limits =
-    let index : Index = record { name = docs; shards = empty_shard ∷ [] } in
+    let index : Index = made docs 1 [] in
     record {
       shards = All-cons (λ (index : Index). All IsSoundShard index.shards) index [] (All-cons IsSoundShard empty_shard [] empty_sound (All-nil IsSoundShard)) (All-nil (λ (index : Index). All IsSoundShard index.shards));
-      one_shard = All-cons (λ (index : Index). length index.shards ≡ 1) index [] refl (All-nil (λ (index : Index). length index.shards ≡ 1));
+      homes = All-cons AreHomes index [] (made_homes docs 1 []) (All-nil AreHomes);
+      names_differ = λ i j d a b. absurd (omega arith);
+      few = omega arith;
       issued = λ k d l. absurd (omega arith);
       numbers_differ = λ i j d a b. absurd (omega arith);
       limited = omega arith;
@@ -118,11 +127,12 @@ state_sound limits history = run_sound history (start limits) (start_sound limit
 abbrev HasShardObjects : Shard → Type 0
 HasShardObjects shard = AreObjects shard.rows × All PutsObjectOp shard.pending
 
--- a change keeps objects
-changed_objects : (old new : Shard) → Changed PutsObjectOp old new → HasShardObjects old → HasShardObjects new
-changed_objects old new (inl c) h =
-    subst HasShardObjects (sym c.3) (h.0, All-push PutsObjectOp old.pending c.0 h.1 c.1)
-changed_objects old new (inr c) h = subst HasShardObjects (sym c.2) (publish_objects old c.0 h.0 h.1)
+-- where the operations of an event put objects, a change keeps objects
+changed_objects : (Q : Op → Type 0) → ((op : Op) → Q op → PutsObjectOp op) → (old new : Shard) → Changed Q old new → HasShardObjects old → HasShardObjects new
+changed_objects Q puts old new (inl c) h =
+    subst HasShardObjects (sym c.3) (h.0, All-push PutsObjectOp old.pending c.0 h.1 (puts c.0 c.1))
+changed_objects Q puts old new (inr c) h =
+    subst HasShardObjects (sym c.2) (publish_All PutsObjectOp (λ (row : Row). IsObject row.source) (λ number id source values o. o) old c.0 h.0 h.1)
 
 -- all that a state has are objects
 record Objects (state : State) : Type 0 where
@@ -135,31 +145,41 @@ view_objects shards h =
     All-map AreObjects (λ (shard : Shard). shard.rows) shards (All-weaker HasShardObjects (λ (shard : Shard). AreObjects shard.rows) (λ x o. o.0) shards h)
 
 -- a move keeps views of objects
-moves_views : (old new : State) → Moves PutsObjectOp old new → Objects old → All (λ (context : Context). All AreObjects context.view.shards) new.contexts
-moves_views old new (_, inl m) h = subst (All (λ (context : Context). All AreObjects context.view.shards)) (sym m.contexts) h.views
-moves_views old new (_, inr (inl m)) h = subst (All (λ (context : Context). All AreObjects context.view.shards)) (sym m.contexts) h.views
-moves_views old new (_, inr (inr m)) h =
+moves_views : (old new : State) → MovesContexts old new → Objects old → All (λ (context : Context). All AreObjects context.view.shards) new.contexts
+moves_views old new (inl m) h = subst (All (λ (context : Context). All AreObjects context.view.shards)) (sym m.contexts) h.views
+moves_views old new (inr m) h =
     let was : All HasShardObjects m.index.shards = find_All (λ (index : Index). All HasShardObjects index.shards) (λ (index : Index). bytes_eq index.name m.name) old.indexes m.index h.shards m.there in
     subst (All (λ (context : Context). All AreObjects context.view.shards)) (sym m.contexts)
     (All-push (λ (context : Context). All AreObjects context.view.shards) old.contexts (record { number = old.next; view = view_of m.index; expiry = m.expiry }) h.views (view_objects m.index.shards was))
 
--- an event that puts an object has such an operation
-event_puts : (event : Event) → PutsObject event → OfEvent PutsObjectOp event
-event_puts (Write index id (Put doc)) o = o
-event_puts (Write index id Remove) o = tt
-event_puts (Seal index) o = tt
-event_puts (Publish index shard upto) o = tt
-event_puts (OpenPit index keep) o = tt
-event_puts (Search target request) o = tt
-event_puts Quiet o = tt
+-- the operation of a put has the put's source
+put_op_object : (id source : List ℕ) (r : Result (List Value) DocFault) (op : Op) → put_op id source r ≡ Ok op → IsObject source → PutsObjectOp op
+put_op_object id source (Ok values) op e o = let same : PutOp id source values ≡ op = cc in subst PutsObjectOp same o
+put_op_object id source (Err fault) op e o = absurd (cc)
+
+-- an event that puts an object has such operations
+event_puts : (event : Event) → PutsObject event → (op : Op) → IsOpOf event op → PutsObjectOp op
+event_puts (Write index id (Put doc)) o op of = put_op_object id doc.source (fit of.0 doc.members) op of.1 o
+event_puts (Write index id Remove) o op of = let same : RemoveOp id ≡ op = cc (of.1) in subst PutsObjectOp same tt
+event_puts (Create index shards mapping) o op of = absurd of
+event_puts (Seal index) o op of = absurd of
+event_puts (Publish index shard upto) o op of = absurd of
+event_puts (OpenPit index keep) o op of = absurd of
+event_puts (Search target request) o op of = absurd of
+event_puts Quiet o op of = absurd of
+
+-- an empty shard has nothing but objects
+empty_objects : HasShardObjects empty_shard
+empty_objects = (All-nil (λ (row : Row). IsObject row.source), All-nil PutsObjectOp)
 
 -- a step keeps objects
 step_objects : (state : State) (entry : Entry) → PutsObject entry.event → Objects state → Objects (step state entry).0
 step_objects state entry o h =
-    let m = step_moves PutsObjectOp state entry (event_puts entry.event o) in
+    let m = step_moves state entry in
+    let new : State = (step state entry).0 in
     record {
-      shards = moves_shards PutsObjectOp HasShardObjects HasShardObjects (λ shard has. has) changed_objects state (step state entry).0 m h.shards;
-      views = moves_views state (step state entry).0 m h;
+      shards = moves_shards entry.event HasShardObjects HasShardObjects (λ shard has. has) (changed_objects (IsOpOf entry.event) (event_puts entry.event o)) empty_objects state.indexes new.indexes m.indexes h.shards;
+      views = moves_views state new m.contexts h;
     }
 
 -- a run keeps objects
@@ -172,12 +192,11 @@ run_objects (entry ∷ history) state os h =
 -- the first state has nothing but objects
 start_objects : (limits : Limits) → Objects (start limits)
 start_objects limits =
-    let index : Index = record { name = docs; shards = empty_shard ∷ [] } in
     record {
-      shards = All-cons (λ (index : Index). All HasShardObjects index.shards) index []
-          (All-cons HasShardObjects empty_shard [] ((λ k d l. absurd (omega arith)), (λ k d l. absurd (omega arith))) (All-nil HasShardObjects))
+      shards = All-cons (λ (index : Index). All HasShardObjects index.shards) (made docs 1 []) []
+          (All-cons HasShardObjects empty_shard [] empty_objects (All-nil HasShardObjects))
           (All-nil (λ (index : Index). All HasShardObjects index.shards));
-      views = λ k d l. absurd (omega arith);
+      views = All-nil (λ (context : Context). All AreObjects context.view.shards);
     }
 
 -- where each put of the history is an object, so is all that the state has

@@ -1,8 +1,8 @@
 -- The run of the machine over a history.
-use Rattle.std.specs.Prelude.{◌≡◌, List, [], ◌∷◌, ◌++◌}
+use Rattle.std.specs.Prelude.{◌≡◌, ◌≤◌, List, [], ◌∷◌, ◌++◌}
 use Rattle.list_machine.specs.declared.event.Entry.{Entry}
 use Rattle.list_machine.specs.declared.event.Event.{Event}
-use Rattle.list_machine.specs.declared.event.Event.TheVariants.{Write}
+use Rattle.list_machine.specs.declared.event.Event.TheVariants.{Create, Write}
 use Rattle.list_machine.specs.declared.event.Change.TheVariants.{Put}
 use Rattle.list_machine.specs.declared.event.Reply.{Reply}
 use Rattle.list_machine.specs.declared.event.Limits.{Limits}
@@ -30,6 +30,11 @@ reply_of limits history entry = (step (state_of limits history) entry).1
 pub record Stands (history before : History) (entry : Entry) : Type 0 where
   pub after : History
   pub is : history ≡ before ++ entry ∷ after
+
+-- an index is made with 1 to 1,024 shards
+abbrev pub CreatesSome : Event → Type 0
+CreatesSome (Create index shards mapping) = (1 ≤ shards) × (shards ≤ 1024)
+CreatesSome event = Unit {0}
 
 -- a put's source is a JSON object
 abbrev pub PutsObject : Event → Type 0

@@ -1,6 +1,10 @@
 -- The state of the machine.
-use Rattle.std.specs.Prelude.{◌≡◌, ◌≢◌, ℕ, ◌+◌, ◌<◌, ◌≤◌, ◌==◌, Bool, bytes_eq, nat_le, if◌then◌else◌, List, [], ◌∷◌, length, map, find, count_by, All, AllPairs, Option, codes}
+use Rattle.std.specs.Prelude.{◌≡◌, ◌≢◌, ℕ, ◌+◌, ◌<◌, ◌≤◌, ◌==◌, Bool, bytes_eq, nat_le, if◌then◌else◌, List, [], ◌∷◌, length, map, find, slice_get, sum_by, count_by, All, AllPairs, Option, Some, codes}
+use Rattle.es_types.specs.declared.mapping.Field.{Field}
+use Rattle.es_types.specs.declared.row.Op.{Op}
+use Rattle.es_types.specs.declared.row.Op.TheVariants.{Put, Remove}
 use Rattle.es_types.specs.declared.row.Row.{Row}
+use Rattle.es_types.specs.Homes.{shard_of}
 use Rattle.list_machine.specs.declared.event.Limits.{Limits}
 use Rattle.list_machine.specs.Rows.{Shard}
 use Rattle.list_machine.specs.Views.{View}
@@ -8,6 +12,7 @@ use Rattle.list_machine.specs.Objects.{AreObjects, PutsObjectOp}
 
 pub record Index : Type 0 where
   pub name : List ℕ
+  pub mapping : List Field
   pub shards : List Shard
 
 -- a point in time: its number, the view that it keeps, and the last moment at which it is live
@@ -43,9 +48,16 @@ is_live moment context = nat_le moment context.expiry
 abbrev pub live_contexts : State → ℕ
 live_contexts state = count_by (is_live state.moment) state.contexts
 
+-- how many shards all indexes have together, and how many they may have
+abbrev pub shard_count : List Index → ℕ
+shard_count indexes = sum_by (λ (index : Index). length index.shards) indexes
+
+abbrev pub most_shards : ℕ
+most_shards = 65536
+
 -- the rows of each shard as they are now
 abbrev pub view_of : Index → View
-view_of index = record { index = index.name; shards = map (λ (shard : Shard). shard.rows) index.shards }
+view_of index = record { index = index.name; mapping = index.mapping; shards = map (λ (shard : Shard). shard.rows) index.shards }
 
 abbrev pub empty_shard : Shard
 empty_shard = record { base = 0; rows = []; pending = [] }
@@ -59,7 +71,7 @@ start limits = record {
   limits = limits;
   moment = 0;
   next = 1;
-  indexes = record { name = docs; shards = empty_shard ∷ [] } ∷ [];
+  indexes = record { name = docs; mapping = []; shards = empty_shard ∷ [] } ∷ [];
   contexts = [];
 }
 
@@ -71,11 +83,27 @@ pub record IsSoundShard (shard : Shard) : Type 0 where
   pub applied : All (λ (row : Row). row.seq ≤ shard.base) shard.rows
   pub few : length shard.rows + length shard.pending ≤ 2147483647
 
+-- the document that an operation is of
+abbrev pub id_of : Op → List ℕ
+id_of (Put id source values) = id
+id_of (Remove id) = id
+
+-- the shard at that place, among so many, has rows and waiting operations of its own documents alone
+pub record IsHome (at shards : ℕ) (shard : Shard) : Type 0 where
+  pub rows : All (λ (row : Row). shard_of row.id shards ≡ at) shard.rows
+  pub pending : All (λ (op : Op). shard_of (id_of op) shards ≡ at) shard.pending
+
+-- so has each shard of an index
+abbrev pub AreHomes : Index → Type 0
+AreHomes index = (at : ℕ) (shard : Shard) → slice_get index.shards at ≡ Some shard → IsHome at (length index.shards) shard
+
 -- what holds in every state that the machine comes to
 pub record IsSound (state : State) : Type 0 where
   pub shards : All (λ (index : Index). All IsSoundShard index.shards) state.indexes
-  -- each index has one shard, so each row stands in the shard of its id
-  pub one_shard : All (λ (index : Index). length index.shards ≡ 1) state.indexes
+  -- each row and each waiting operation stands in the shard of its document
+  pub homes : All AreHomes state.indexes
+  pub names_differ : AllPairs (λ (a b : Index). a.name ≢ b.name) state.indexes
+  pub few : shard_count state.indexes ≤ most_shards
   -- every issued number is below the next, and no two contexts have one number
   pub issued : All (λ (context : Context). context.number < state.next) state.contexts
   pub numbers_differ : AllPairs (λ (a b : Context). a.number < b.number) state.contexts

@@ -1,10 +1,15 @@
 -- One step of the machine, and its reply.
-use Rattle.std.specs.Prelude.{ℕ, ◌+◌, ◌==◌, max, Bool, true, false, nat_le, nat_lt, if◌then◌else◌, List, [], ◌∷◌, ◌++◌, length, map, Option, Some, None, slice_get, slice_set}
+use Rattle.std.specs.Prelude.{ℕ, ◌+◌, ◌==◌, max, Bool, true, false, nat_le, nat_lt, if◌then◌else◌, List, [], ◌∷◌, ◌++◌, length, map, replicate, Option, Some, None, Result, Ok, Err, slice_get, slice_set}
+use Rattle.es_types.specs.declared.fit.DocFault.{DocFault}
+use Rattle.es_types.specs.declared.mapping.Field.{Field}
 use Rattle.es_types.specs.declared.row.Op.{Op}
 use Rattle.es_types.specs.declared.row.Op.TheVariants.{Put as PutOp, Remove as RemoveOp}
+use Rattle.es_types.specs.declared.row.Value.{Value}
+use Rattle.es_types.specs.Fields.{fit}
+use Rattle.es_types.specs.Homes.{shard_of}
 use Rattle.list_machine.specs.declared.event.Entry.{Entry}
 use Rattle.list_machine.specs.declared.event.Event.{Event}
-use Rattle.list_machine.specs.declared.event.Event.TheVariants.{Write, Seal, Publish, OpenPit, Search, Quiet}
+use Rattle.list_machine.specs.declared.event.Event.TheVariants.{Create, Write, Seal, Publish, OpenPit, Search, Quiet}
 use Rattle.list_machine.specs.declared.event.Change.{Change}
 use Rattle.list_machine.specs.declared.event.Change.TheVariants.{Put, Remove}
 use Rattle.list_machine.specs.declared.event.Target.{Target}
@@ -12,15 +17,11 @@ use Rattle.list_machine.specs.declared.event.Target.TheVariants.{Pit}
 use Rattle.list_machine.specs.declared.event.Wrote.{Wrote}
 use Rattle.list_machine.specs.declared.event.Wrote.TheVariants.{Created, Updated, Deleted, NotFound}
 use Rattle.list_machine.specs.declared.event.Reply.{Reply}
-use Rattle.list_machine.specs.declared.event.Reply.TheVariants.{Done, Wrote as WroteReply, Sealed, Opened, Found, NoIndex, Missing, TooMany, ShardFull}
+use Rattle.list_machine.specs.declared.event.Reply.TheVariants.{Done, Wrote as WroteReply, Sealed, Opened, Found, NoIndex, Exists, Missing, BadDoc, TooMany, ShardFull}
 use Rattle.list_machine.specs.declared.search.SearchRequest.{SearchRequest}
 use Rattle.list_machine.specs.Rows.{Shard, has_id, last_number, publish, rows_to_come}
 use Rattle.list_machine.specs.Views.{answer}
-use Rattle.list_machine.specs.State.{State, Index, Context, index_of, put_index, context_of, is_live, live_contexts, view_of}
-
--- the shard of a document: each index has one, until there is a way to make others
-abbrev pub home_of : List ℕ → ℕ → ℕ
-home_of id shards = 0
+use Rattle.list_machine.specs.State.{State, Index, Context, empty_shard, index_of, put_index, context_of, is_live, live_contexts, shard_count, most_shards, view_of}
 
 -- as many rows and waiting operations as a shard may have
 abbrev pub shard_limit : ℕ
@@ -29,10 +30,15 @@ shard_limit = 2147483647
 abbrev pub is_full : Shard → Bool
 is_full shard = nat_le shard_limit (length shard.rows + length shard.pending)
 
--- the operation that a change of a document is
-abbrev pub op_of : List ℕ → Change → Op
-op_of id (Put doc) = PutOp id doc.source []
-op_of id Remove = RemoveOp id
+-- the operation that a put is, or the fault of its document
+abbrev pub put_op : List ℕ → List ℕ → Result (List Value) DocFault → Result Op DocFault
+put_op id source (Ok values) = Ok (PutOp id source values)
+put_op id source (Err fault) = Err fault
+
+-- the operation that a change of a document is, unless the document has a value that is none of its field
+abbrev pub op_of : List Field → List ℕ → Change → Result Op DocFault
+op_of mapping id (Put doc) = put_op id doc.source (fit mapping doc.members)
+op_of mapping id Remove = Ok (RemoveOp id)
 
 -- what a change did, by whether the document was there
 abbrev pub wrote : Change → Bool → Wrote
@@ -48,19 +54,34 @@ put_shard state index at shard = record state { indexes = put_index (record inde
 abbrev pub append_op : Shard → Op → Shard
 append_op shard op = record shard { pending = shard.pending ++ op ∷ [] }
 
-abbrev pub write_shard : State → Index → List ℕ → Change → Option Shard → State × Reply
-write_shard state index id change None = (state, NoIndex)
-write_shard state index id change (Some shard) =
+-- an index of that name is made, with empty shards
+abbrev pub create : State → List ℕ → ℕ → List Field → Option Index → State × Reply
+create state name shards mapping (Some index) = (state, Exists)
+create state name shards mapping None =
+    if nat_lt most_shards (shard_count state.indexes + shards)
+    then (state, TooMany most_shards)
+    else (
+      record state { indexes = state.indexes ++ record { name = name; mapping = mapping; shards = replicate shards empty_shard } ∷ [] },
+      Done,
+    )
+
+abbrev pub write_shard : State → Index → List ℕ → Change → Op → Option Shard → State × Reply
+write_shard state index id change op None = (state, NoIndex)
+write_shard state index id change op (Some shard) =
     if is_full shard
     then (state, ShardFull)
     else (
-      put_shard state index (home_of id (length index.shards)) (append_op shard (op_of id change)),
+      put_shard state index (shard_of id (length index.shards)) (append_op shard op),
       WroteReply (wrote change (has_id id (rows_to_come shard))) (last_number shard + 1),
     )
 
+abbrev pub write_op : State → Index → List ℕ → Change → Result Op DocFault → State × Reply
+write_op state index id change (Err fault) = (state, BadDoc fault)
+write_op state index id change (Ok op) = write_shard state index id change op (slice_get index.shards (shard_of id (length index.shards)))
+
 abbrev pub write : State → List ℕ → Change → Option Index → State × Reply
 write state id change None = (state, NoIndex)
-write state id change (Some index) = write_shard state index id change (slice_get index.shards (home_of id (length index.shards)))
+write state id change (Some index) = write_op state index id change (op_of index.mapping id change)
 
 abbrev pub seal : State → Option Index → State × Reply
 seal state None = (state, NoIndex)
@@ -98,6 +119,7 @@ search state request (Pit number) = search_pit state request (context_of number 
 
 -- what an event makes of the state, and its reply
 abbrev pub happen : State → Event → State × Reply
+happen state (Create index shards mapping) = create state index shards mapping (index_of index state.indexes)
 happen state (Write index id change) = write state id change (index_of index state.indexes)
 happen state (Seal index) = seal state (index_of index state.indexes)
 happen state (Publish index shard upto) = publish_index state shard upto (index_of index state.indexes)

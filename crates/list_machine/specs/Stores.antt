@@ -1,29 +1,36 @@
 -- What the lists of the plain machine are seen as: rows, indexes, contexts and a state.
-use Rattle.std.specs.Prelude.{◌≡◌, ℕ, ◌+◌, ◌≤◌, List, [], ◌∷◌, map, All, if◌then◌else◌}
+use Rattle.std.specs.Prelude.{◌≡◌, ℕ, ◌+◌, ◌≤◌, nat_lt, List, length, map, All, if◌then◌else◌, Option, Some, None, Result, Ok, Err, slice_get, slice_set}
+use Rattle.es_types.specs.declared.fit.DocFault.{DocFault}
+use Rattle.es_types.specs.declared.mapping.Field.{Field}
+use Rattle.es_types.specs.declared.row.Op.{Op}
+use Rattle.es_types.specs.declared.row.Row.{Row}
+use Rattle.es_types.specs.Homes.{shard_of}
 use Rattle.list_machine.specs.declared.event.Change.{Change}
 use Rattle.list_machine.specs.declared.event.Reply.{Reply}
-use Rattle.list_machine.specs.declared.event.Reply.TheVariants.{Wrote as WroteReply, ShardFull}
+use Rattle.list_machine.specs.declared.event.Reply.TheVariants.{BadDoc, NoIndex, ShardFull, Wrote as WroteReply}
 use Rattle.list_machine.specs.declared.store.ShardStore.{ShardStore}
 use Rattle.list_machine.specs.declared.store.IndexStore.{IndexStore}
 use Rattle.list_machine.specs.declared.store.ContextStore.{ContextStore}
 use Rattle.list_machine.specs.declared.store.Store.{Store}
-use Rattle.list_machine.specs.Rows.{Shard, has_id, last_number, rows_to_come}
-use Rattle.list_machine.specs.State.{State, Index, Context}
+use Rattle.list_machine.specs.Rows.{Shard, has_id, last_number, publish, rows_to_come}
+use Rattle.list_machine.specs.Views.{View}
+use Rattle.list_machine.specs.State.{State, Index, Context, IsSound, most_shards}
 use Rattle.list_machine.specs.Step.{append_op, is_full, op_of, wrote}
 
 abbrev pub shard_seen : ShardStore → Shard
 shard_seen store = record { base = store.base; rows = store.rows.items; pending = store.pending.items }
 
--- each index has one shard
+abbrev pub shards_seen : List ShardStore → List Shard
+shards_seen stores = map shard_seen stores
+
 abbrev pub index_seen : IndexStore → Index
-index_seen store = record { name = store.name; shards = shard_seen store.shard ∷ [] }
+index_seen store = record { name = store.name; mapping = store.mapping; shards = shards_seen store.shards.items }
+
+abbrev pub view_seen : ContextStore → View
+view_seen store = record { index = store.index; mapping = store.mapping; shards = map (λ rows. rows.items) store.shards.items }
 
 abbrev pub context_seen : ContextStore → Context
-context_seen store = record {
-  number = store.number;
-  view = record { index = store.index; shards = store.rows.items ∷ [] };
-  expiry = store.expiry;
-}
+context_seen store = record { number = store.number; view = view_seen store; expiry = store.expiry }
 
 abbrev pub indexes_seen : List IndexStore → List Index
 indexes_seen stores = map index_seen stores
@@ -45,23 +52,65 @@ abbrev pub most_entries : ℕ
 most_entries = 9007199254740991
 
 -- no operation of these has a number above n
-abbrev pub AreNumbered : ℕ → List Index → Type 0
-AreNumbered n indexes = All (λ (index : Index). All (λ (shard : Shard). last_number shard ≤ n) index.shards) indexes
+abbrev pub AreNumbered : ℕ → List Shard → Type 0
+AreNumbered n shards = All (λ (shard : Shard). last_number shard ≤ n) shards
 
--- after n entries no operation has a number above n, nor has a context
+-- an index has a shard, and not more than there may be, and no operation of them has a number above n
+pub record IsCountedIndex (n : ℕ) (index : Index) : Type 0 where
+  pub some : 1 ≤ length index.shards
+  pub few : length index.shards ≤ most_shards
+  pub numbers : AreNumbered n index.shards
+
+-- a view has no more shards than there may be, and no shard of it more rows
+pub record IsSmall (view : View) : Type 0 where
+  pub few : length view.shards ≤ most_shards
+  pub rows : All (λ (rows : List Row). length rows ≤ 2147483647) view.shards
+
+-- what holds after n entries
 pub record IsCounted (n : ℕ) (state : State) : Type 0 where
-  pub numbers : AreNumbered n state.indexes
+  pub indexes : All (IsCountedIndex n) state.indexes
   pub next : state.next ≤ n + 1
+  pub views : All (λ (context : Context). IsSmall context.view) state.contexts
+  pub sound : IsSound state
 
--- what a write makes of a shard, and its reply
-abbrev pub write_of : Shard → List ℕ → Change → Shard × Reply
-write_of shard id change =
+-- what a write makes of a shard by its operation, and its reply
+abbrev pub write_of : Shard → List ℕ → Change → Op → Shard × Reply
+write_of shard id change op =
     if is_full shard
     then (shard, ShardFull)
     else (
-      append_op shard (op_of id change),
+      append_op shard op,
       WroteReply (wrote change (has_id id (rows_to_come shard))) (last_number shard + 1),
     )
+
+-- what it makes of all shards, where the document's is this one
+abbrev pub write_at : List Shard → List ℕ → Change → Op → Option Shard → List Shard × Reply
+write_at shards id change op None = (shards, NoIndex)
+write_at shards id change op (Some shard) = (
+  slice_set shards (shard_of id (length shards)) (write_of shard id change op).0,
+  (write_of shard id change op).1,
+)
+
+-- and where that is its operation, or its document is refused
+abbrev pub write_by : List Shard → List ℕ → Change → Result Op DocFault → List Shard × Reply
+write_by shards id change (Err fault) = (shards, BadDoc fault)
+write_by shards id change (Ok op) = write_at shards id change op (slice_get shards (shard_of id (length shards)))
+
+-- what a write makes of the shards of an index with that mapping, and its reply
+abbrev pub write_in : List Field → List Shard → List ℕ → Change → List Shard × Reply
+write_in mapping shards id change = write_by shards id change (op_of mapping id change)
+
+-- what a publish makes of a shard
+abbrev pub publish_of : Shard → ℕ → Shard
+publish_of shard upto = if nat_lt (last_number shard) upto then shard else publish shard upto
+
+-- what a publish makes of the shards of an index
+abbrev pub publish_at : List Shard → ℕ → ℕ → Option Shard → List Shard
+publish_at shards at upto None = shards
+publish_at shards at upto (Some shard) = slice_set shards at (publish_of shard upto)
+
+abbrev pub publish_in : List Shard → ℕ → ℕ → List Shard
+publish_in shards at upto = publish_at shards at upto (slice_get shards at)
 
 -- what becomes of the indexes at any state that has them, and the reply
 abbrev pub Turns : (State → State × Reply) → List IndexStore → List IndexStore → Reply → Type 0

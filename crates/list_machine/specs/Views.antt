@@ -1,5 +1,6 @@
 -- A view, its places, and a page of them.
 use Rattle.std.specs.Prelude.{ℕ, ◌+◌, ◌-◌, ◌*◌, ◌/◌, ◌==◌, Bool, true, ℤ, pos, int_lt, List, [], ◌∷◌, ◌++◌, length, take, drop, map, filter, count_by, Option, Some, None}
+use Rattle.es_types.specs.declared.mapping.Field.{Field}
 use Rattle.es_types.specs.declared.row.Row.{Row}
 use Rattle.es_types.specs.declared.row.Value.{Value}
 use Rattle.es_types.specs.declared.row.Value.TheVariants.{Long}
@@ -7,9 +8,10 @@ use Rattle.list_machine.specs.declared.search.SearchRequest.{SearchRequest}
 use Rattle.list_machine.specs.declared.search.Answer.{Answer}
 use Rattle.list_machine.specs.declared.search.Hit.{Hit}
 
--- the rows of each shard of an index at one moment
+-- the rows of each shard of an index at one moment, and its mapping
 pub record View : Type 0 where
   pub index : List ℕ
+  pub mapping : List Field
   pub shards : List (List Row)
 
 -- a row of a view, and its number: the shard's number times 2^32, and how many rows stand before it in the shard

@@ -1,5 +1,5 @@
 use crate::{Answer, SearchRequest};
-use es_types::{Doc, DocId, IndexName, Items, KeepAlive, Moment};
+use es_types::{Doc, DocFault, DocId, IndexName, Items, KeepAlive, Mapping, Moment};
 
 /// What becomes of a document.
 #[derive(Drop)]
@@ -17,6 +17,12 @@ pub enum Target {
 /// One step of the machine.
 #[derive(Drop)]
 pub enum Event {
+    /// Makes an index with so many empty shards, from 1 to 1,024.
+    Create {
+        index: IndexName,
+        shards: u32,
+        mapping: Mapping,
+    },
     /// Puts or removes a document; a search sees it once it is published.
     Write {
         index: IndexName,
@@ -78,9 +84,13 @@ pub enum Reply {
     /// The history has as many entries as it may have.
     Spent,
     NoIndex,
+    /// An index of that name is there.
+    Exists,
     /// No point in time of that number is live.
     Missing,
-    /// As many points in time as may be are live.
+    /// The document has a value that is none of its field.
+    BadDoc(DocFault),
+    /// As many points in time as may be are live, or all indexes together would have more shards than they may have.
     TooMany { limit: u64 },
     ShardFull,
 }

@@ -3,8 +3,9 @@ ghost use Rattle.list_machine.specs.State.{docs, start};
 ghost use Rattle.list_machine.specs.Stores.{state_seen};
 
 use crate::Limits;
-use crate::store::{IndexStore, ShardStore, Store};
-use es_types::{IndexName, Moment, NoMemory, Text};
+use crate::creating::make_index;
+use crate::store::Store;
+use es_types::{IndexName, Mapping, Moment, NoMemory, Text};
 use std::alloc::Global;
 
 /// The name of the index that is there from the start.
@@ -23,14 +24,7 @@ pub fn first_store(alloc: Global, limits: Limits) -> Result<Store, NoMemory>
     ensures { IfOk result (λ store. state_seen store ≡ start limits) }
 {
     let mut indexes = Vec::new(alloc);
-    indexes.push(IndexStore {
-        name: docs(alloc)?,
-        shard: ShardStore {
-            base: 0,
-            rows: Vec::new(alloc),
-            pending: Vec::new(alloc),
-        },
-    })?;
+    indexes.push(make_index(alloc, &docs(alloc)?, 1, &Mapping::empty(alloc))?)?;
     Ok(Store {
         limits,
         moment: Moment::zero(),

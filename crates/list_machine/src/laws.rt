@@ -2,8 +2,9 @@ ghost use Rattle.std.specs.Prelude.{◌≡◌, ℕ, ◌≤◌, List, ◌++◌, l
 ghost use Rattle.list_machine.specs.declared.event.Entry.{Entry};
 ghost use Rattle.list_machine.specs.declared.event.Limits.{Limits};
 ghost use Rattle.list_machine.specs.Pages.{Enumerates};
-ghost use Rattle.list_machine.specs.Run.{History, PutsObject, reply_of, state_of};
-ghost use Rattle.list_machine.specs.State.{HasObjects, IsSound};
+ghost use Rattle.list_machine.specs.Run.{CreatesSome, History, PutsObject, reply_of, state_of};
+ghost use Rattle.list_machine.specs.Stores.{IsCounted};
+ghost use Rattle.list_machine.specs.State.{HasObjects, IsSound, most_shards};
 
 use crate::{Event, Reply};
 
@@ -18,9 +19,12 @@ pub fn sound_states()
     ensures sound { (limits : Limits) (history : History) → IsSound (state_of limits history) }
     ensures objects { (limits : Limits) (history : History)
         → All (λ (entry : Entry). PutsObject entry.event) history → HasObjects (state_of limits history) }
-    // A Seal answers one number, since each index has one shard.
+    // A Seal answers no more numbers than there may be shards.
     ensures sealed { (limits : Limits) (history : History) (entry : Entry) (index numbers : List ℕ)
-        → entry.event ≡ Event.Seal index → reply_of limits history entry ≡ Reply.Sealed numbers → length numbers ≡ 1 }
+        → entry.event ≡ Event.Seal index → reply_of limits history entry ≡ Reply.Sealed numbers → length numbers ≤ most_shards }
+    // So are its numbers and sizes, by how many entries came before.
+    ensures counted { (limits : Limits) (history : History)
+        → All (λ (entry : Entry). CreatesSome entry.event) history → IsCounted (length history) (state_of limits history) }
     // No entry changes the limits.
     ensures limits { (limits : Limits) (history : History) → (state_of limits history).limits ≡ limits }
     // The moment never falls.

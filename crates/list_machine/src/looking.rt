@@ -1,27 +1,38 @@
-ghost use Rattle.std.specs.Prelude.{◌≡◌, ◌+◌, ◌≤◌, ◌==◌, IfOk, OnErr, count_by, find, option_copied};
+ghost use Rattle.std.specs.Prelude.{◌≡◌, ◌+◌, ◌≤◌, ◌==◌, IfOk, OnErr, All, map, count_by, find, option_copied};
 ghost use Rattle.list_machine.specs.declared.event.Event.TheVariants.{OpenPit, Seal, Search};
-ghost use Rattle.list_machine.specs.State.{State, context_of, is_live, view_of};
+ghost use Rattle.list_machine.specs.Rows.{last_number as last_number_of};
+ghost use Rattle.list_machine.specs.State.{Context, State, context_of, is_live, view_of};
 ghost use Rattle.list_machine.specs.Step.{happen, search_pit};
-ghost use Rattle.list_machine.specs.Stores.{AreNumbered, contexts_seen, context_seen, index_seen, indexes_seen, most_entries, state_seen};
+ghost use Rattle.list_machine.specs.Stores.{IsCountedIndex, IsSmall, contexts_seen, context_seen, index_seen, indexes_seen, most_entries, shard_seen, state_seen};
 
 use crate::paging::answer;
-use crate::store::{ContextStore, IndexStore, Store, last_number, place_of};
+use crate::store::{ContextStore, IndexStore, ShardStore, Store, last_number, place_of};
 use crate::{Reply, SearchRequest, Target};
 use es_types::{Copied, IndexName, Items, KeepAlive, Moment, NoMemory, Row};
 use std::alloc::Global;
 
 /// The number of the last operation of each shard.
 pub fn seal(alloc: Global, indexes: &[IndexStore], name: &IndexName) -> Result<Reply, NoMemory>
-    requires { AreNumbered most_entries (indexes_seen indexes.now) }
+    requires { All (IsCountedIndex most_entries) (indexes_seen indexes.now) }
     ensures { IfOk result (λ reply. (state : State) → happen (record state { indexes = indexes_seen indexes.now }) (Seal name.now)
         ≡ (record state { indexes = indexes_seen indexes.now }, reply)) }
 {
     let Some(at) = place_of(indexes, name) else {
         return Ok(Reply::NoIndex);
     };
-    let mut numbers = Vec::new(alloc);
-    numbers.push(last_number(&indexes[at].shard))?;
+    let numbers = last_numbers(alloc, &indexes[at].shards)?;
     Ok(Reply::Sealed(Items::of(numbers)))
+}
+
+fn last_numbers(alloc: Global, shards: &[ShardStore]) -> Result<Vec<u64>, NoMemory>
+    requires { All (λ shard. last_number_of (shard_seen shard) ≤ most_entries) shards.now }
+    ensures { IfOk result (λ numbers. numbers.items ≡ map (λ shard. last_number_of (shard_seen shard)) shards.now) }
+{
+    let mut numbers = Vec::with_capacity(alloc, shards.len())?;
+    for shard in shards {
+        numbers.push(last_number(shard))?;
+    }
+    Ok(numbers)
 }
 
 /// Copies the rows of an index into a new context, unless as many as may be are live.
@@ -67,12 +78,25 @@ fn make_context(
 ) -> Result<ContextStore, NoMemory>
     ensures { IfOk result (λ context. context_seen context ≡ record { number = number; view = view_of (index_seen index.now); expiry = expiry }) }
 {
+    let name = index.name.copy(alloc)?;
+    let mapping = index.mapping.copy(alloc)?;
     Ok(ContextStore {
         number,
-        index: index.name.copy(alloc)?,
-        rows: copy_rows(alloc, &index.shard.rows)?,
+        index: name,
+        mapping,
+        shards: copy_shards(alloc, &index.shards)?,
         expiry,
     })
+}
+
+fn copy_shards(alloc: Global, shards: &[ShardStore]) -> Result<Vec<Vec<Row>>, NoMemory>
+    ensures { IfOk result (λ copies. map (λ rows. rows.items) copies.items ≡ map (λ shard. shard.rows.items) shards.now) }
+{
+    let mut copies = Vec::with_capacity(alloc, shards.len())?;
+    for shard in shards {
+        copies.push(copy_rows(alloc, &shard.rows)?)?;
+    }
+    Ok(copies)
 }
 
 fn copy_rows(alloc: Global, rows: &[Row]) -> Result<Vec<Row>, NoMemory>
@@ -93,6 +117,7 @@ pub fn search(
     target: &Target,
     request: &SearchRequest,
 ) -> Result<Reply, NoMemory>
+    requires { All (λ (context : Context). IsSmall context.view) (contexts_seen contexts.now) }
     ensures { IfOk result (λ reply. (state : State) → happen (record state { contexts = contexts_seen contexts.now; moment = moment }) (Search target.now request.now)
         ≡ (record state { contexts = contexts_seen contexts.now; moment = moment }, reply)) }
 {
@@ -108,6 +133,7 @@ fn search_pit(
     number: u64,
     request: &SearchRequest,
 ) -> Result<Reply, NoMemory>
+    requires { All (λ (context : Context). IsSmall context.view) (contexts_seen contexts.now) }
     ensures { IfOk result (λ reply. (state : State) → search_pit (record state { contexts = contexts_seen contexts.now; moment = moment }) request.now (context_of number (contexts_seen contexts.now))
         ≡ (record state { contexts = contexts_seen contexts.now; moment = moment }, reply)) }
 {

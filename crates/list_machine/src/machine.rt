@@ -1,8 +1,10 @@
 ghost use Rattle.std.specs.Prelude.{◌≡◌, ◌+◌, ◌<◌, ◌^◌, IfOk, OnOk, OnErr};
+ghost use Rattle.list_machine.specs.Run.{CreatesSome};
 ghost use Rattle.list_machine.specs.State.{start};
 ghost use Rattle.list_machine.specs.Step.{happen, step};
 ghost use Rattle.list_machine.specs.Stores.{IsCounted, most_entries, state_seen};
 
+use crate::creating::create;
 use crate::first::first_store;
 use crate::looking::{open_pit, seal, search};
 use crate::publishing::publish;
@@ -47,7 +49,8 @@ impl Machine {
 
     /// Takes the step of an entry. After `NoMemory` nothing has changed.
     pub fn step(&mut self, entry: &Entry) -> Result<Reply, NoMemory>
-        requires { self.old.entries < 2 ^ 53 }
+        requires early { self.old.entries < 2 ^ 53 }
+        requires creates { CreatesSome entry.now.event }
         ensures reply { IfOk result (λ reply. reply ≡ (step self.old.state entry.now).1) }
         ensures state { OnOk result (self.new ≡ record { state = (step self.old.state entry.now).0; entries = self.old.entries + 1 }) }
         ensures err { OnErr result (self.new ≡ self.old) }
@@ -82,6 +85,11 @@ fn reply_to(
     ensures err { OnErr result (state_seen store.new ≡ state_seen store.old) }
 {
     match event {
+        Event::Create {
+            index,
+            shards,
+            mapping,
+        } => create(alloc, &mut store.indexes, index, *shards, mapping),
         Event::Write { index, id, change } => write(alloc, &mut store.indexes, index, id, change),
         Event::Seal { index } => seal(alloc, &store.indexes, index),
         Event::Publish { index, shard, upto } => {

@@ -1,8 +1,8 @@
-ghost use Rattle.std.specs.Prelude.{◌≡◌, ◌+◌, ◌<◌, ◌≤◌, ◌^◌, OnOk, IfOk, OnErr, nat_lt, vec_capacity, vec_len, if◌then◌else◌};
+ghost use Rattle.std.specs.Prelude.{◌≡◌, ◌+◌, ◌<◌, ◌≤◌, ◌^◌, OnOk, IfOk, OnErr, All, vec_capacity, vec_len};
 ghost use Rattle.list_machine.specs.declared.event.Event.TheVariants.{Publish};
-ghost use Rattle.list_machine.specs.Rows.{apply, apply_all, last_number, publish, without};
+ghost use Rattle.list_machine.specs.Rows.{apply, apply_all, last_number, without};
 ghost use Rattle.list_machine.specs.Step.{happen};
-ghost use Rattle.list_machine.specs.Stores.{AreNumbered, Turns, indexes_seen, most_entries, shard_seen};
+ghost use Rattle.list_machine.specs.Stores.{AreNumbered, IsCountedIndex, Turns, indexes_seen, most_entries, publish_in, publish_of, shard_seen, shards_seen};
 
 use crate::Reply;
 use crate::store::{IndexStore, ShardStore, is_same_id, last_number, place_of};
@@ -16,26 +16,32 @@ pub fn publish(
     shard: u32,
     upto: u64,
 ) -> Result<Reply, NoMemory>
-    requires { AreNumbered most_entries (indexes_seen indexes.old.items) }
+    requires { All (IsCountedIndex most_entries) (indexes_seen indexes.old.items) }
     ensures ok { IfOk result (Turns (λ state. happen state (Publish name.now shard upto)) indexes.old.items indexes.new.items) }
     ensures err { OnErr result (indexes_seen indexes.new.items ≡ indexes_seen indexes.old.items) }
 {
-    // An index has no other shard.
-    if shard != 0 {
-        return Ok(Reply::Done);
-    }
     let Some(at) = place_of(indexes, name) else {
         return Ok(Reply::Done);
     };
-    publish_shard(&mut indexes[at].shard, upto)?;
+    publish_in(&mut indexes[at].shards, shard as usize, upto)?;
     Ok(Reply::Done)
+}
+
+fn publish_in(shards: &mut Vec<ShardStore>, at: usize, upto: u64) -> Result<(), NoMemory>
+    requires { AreNumbered most_entries (shards_seen shards.old.items) }
+    ensures ok { OnOk result (shards_seen shards.new.items ≡ publish_in (shards_seen shards.old.items) at upto) }
+    ensures err { OnErr result (shards_seen shards.new.items ≡ shards_seen shards.old.items) }
+{
+    if at >= shards.len() {
+        return Ok(());
+    }
+    publish_shard(&mut shards[at], upto)
 }
 
 /// All room that is needed is made first, so that nothing has changed where there is none.
 fn publish_shard(shard: &mut ShardStore, upto: u64) -> Result<(), NoMemory>
     requires { last_number (shard_seen shard.old) ≤ most_entries }
-    ensures ok { OnOk result (shard_seen shard.new ≡ (if nat_lt (last_number (shard_seen shard.old)) upto
-        then shard_seen shard.old else publish (shard_seen shard.old) upto)) }
+    ensures ok { OnOk result (shard_seen shard.new ≡ publish_of (shard_seen shard.old) upto) }
     ensures err { OnErr result (shard_seen shard.new ≡ shard_seen shard.old) }
 {
     if last_number(shard) < upto || upto <= shard.base {
@@ -45,12 +51,13 @@ fn publish_shard(shard: &mut ShardStore, upto: u64) -> Result<(), NoMemory>
     shard.rows.reserve(count)?;
     let waiting = shard.pending.split_off(count)?;
     let ops = mem::replace(&mut shard.pending, waiting);
-    apply_each(&mut shard.rows, shard.base, ops);
+    apply_ops(&mut shard.rows, shard.base, ops);
     shard.base = upto;
     Ok(())
 }
 
-fn apply_each(rows: &mut Vec<Row>, base: u64, ops: Vec<Op>)
+/// Applies operations that are numbered from `base + 1` on. The rows have room for them.
+pub fn apply_ops(rows: &mut Vec<Row>, base: u64, ops: Vec<Op>)
     requires numbers { base + vec_len ops < 2 ^ 64 }
     requires room { vec_len rows.old + vec_len ops ≤ vec_capacity rows.old }
     ensures { rows.new.items ≡ apply_all rows.old.items base ops.items }

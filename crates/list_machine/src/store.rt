@@ -3,7 +3,7 @@ ghost use Rattle.list_machine.specs.Rows.{last_number as last_number_of};
 ghost use Rattle.list_machine.specs.Stores.{shard_seen};
 
 use crate::Limits;
-use es_types::{DocId, IndexName, Moment, Op, Row};
+use es_types::{DocId, IndexName, Mapping, Moment, Op, Row};
 
 /// A shard: how many of its operations were applied, the rows that a search sees, and the operations that wait.
 #[derive(Drop)]
@@ -13,19 +13,21 @@ pub struct ShardStore {
     pub pending: Vec<Op>,
 }
 
-/// An index, which has one shard.
+/// An index, which has at least one shard.
 #[derive(Drop)]
 pub struct IndexStore {
     pub name: IndexName,
-    pub shard: ShardStore,
+    pub mapping: Mapping,
+    pub shards: Vec<ShardStore>,
 }
 
-/// A point in time: the rows that it keeps, and the last moment at which it is live, in milliseconds.
+/// A point in time: the rows of each shard that it keeps, and the last moment at which it is live, in milliseconds.
 #[derive(Drop)]
 pub struct ContextStore {
     pub number: u64,
     pub index: IndexName,
-    pub rows: Vec<Row>,
+    pub mapping: Mapping,
+    pub shards: Vec<Vec<Row>>,
     pub expiry: u64,
 }
 

@@ -1,13 +1,17 @@
-ghost use Rattle.std.specs.Prelude.{◌≡◌, ◌≤◌, ℕ, IfOk, OnErr};
+ghost use Rattle.std.specs.Prelude.{◌≡◌, ◌≤◌, ℕ, All, IfOk, OnErr, length};
+ghost use Rattle.es_types.specs.Fail.{Answers};
 ghost use Rattle.list_machine.specs.declared.event.Event.TheVariants.{Write};
 ghost use Rattle.list_machine.specs.Rows.{apply_all, has_id, last_number};
+ghost use Rattle.list_machine.specs.State.{most_shards};
 ghost use Rattle.list_machine.specs.Step.{happen, op_of, wrote};
-ghost use Rattle.list_machine.specs.Stores.{AreNumbered, Turns, indexes_seen, most_entries, shard_seen, write_of};
+ghost use Rattle.list_machine.specs.Stores.{AreNumbered, IsCountedIndex, Turns, indexes_seen, most_entries, shard_seen, shards_seen, write_in, write_of};
 ghost use Rattle.list_machine.specs.Standing.{stands_after};
 
 use crate::store::{IndexStore, ShardStore, is_same_id, last_number, place_of};
 use crate::{Change, Reply, Wrote};
-use es_types::{Copied, DocId, IndexName, Items, NoMemory, Op, Row};
+use es_types::{
+    Copied, DocFault, DocId, Fail, IndexName, Mapping, NoMemory, Op, Row, fit_doc, shard_of,
+};
 use std::alloc::Global;
 
 /// As many rows and waiting operations as a shard may have.
@@ -21,46 +25,75 @@ pub fn write(
     id: &DocId,
     change: &Change,
 ) -> Result<Reply, NoMemory>
-    requires { AreNumbered most_entries (indexes_seen indexes.old.items) }
+    requires { All (IsCountedIndex most_entries) (indexes_seen indexes.old.items) }
     ensures ok { IfOk result (Turns (λ state. happen state (Write name.now id.now change.now)) indexes.old.items indexes.new.items) }
     ensures err { OnErr result (indexes_seen indexes.new.items ≡ indexes_seen indexes.old.items) }
 {
     let Some(at) = place_of(indexes, name) else {
         return Ok(Reply::NoIndex);
     };
-    write_shard(alloc, &mut indexes[at].shard, id, change)
+    let index = &mut indexes[at];
+    write_in(alloc, &index.mapping, &mut index.shards, id, change)
 }
 
-fn write_shard(
+fn write_in(
     alloc: Global,
-    shard: &mut ShardStore,
+    mapping: &Mapping,
+    shards: &mut Vec<ShardStore>,
     id: &DocId,
     change: &Change,
 ) -> Result<Reply, NoMemory>
+    requires some { 1 ≤ length shards.old.items }
+    requires few { length shards.old.items ≤ most_shards }
+    requires numbers { AreNumbered most_entries (shards_seen shards.old.items) }
+    ensures ok { IfOk result (λ reply. write_in mapping.now (shards_seen shards.old.items) id.now change.now ≡ (shards_seen shards.new.items, reply)) }
+    ensures err { OnErr result (shards_seen shards.new.items ≡ shards_seen shards.old.items) }
+{
+    let op = match make_op(alloc, mapping, id, change) {
+        Ok(op) => op,
+        Err(Fail::Is(fault)) => return Ok(Reply::BadDoc(fault)),
+        Err(Fail::NoMemory) => return Err(NoMemory),
+    };
+    let home = shard_of(id, shards.len() as u32);
+    write_shard(&mut shards[home as usize], id, change, op)
+}
+
+fn write_shard(
+    shard: &mut ShardStore,
+    id: &DocId,
+    change: &Change,
+    op: Op,
+) -> Result<Reply, NoMemory>
     requires { last_number (shard_seen shard.old) ≤ most_entries }
-    ensures ok { IfOk result (λ reply. write_of (shard_seen shard.old) id.now change.now ≡ (shard_seen shard.new, reply)) }
+    ensures ok { IfOk result (λ reply. write_of (shard_seen shard.old) id.now change.now op ≡ (shard_seen shard.new, reply)) }
     ensures err { OnErr result (shard_seen shard.new ≡ shard_seen shard.old) }
 {
     if shard.rows.len() + shard.pending.len() >= SHARD_LIMIT {
         return Ok(Reply::ShardFull);
     }
-    let op = make_op(alloc, id, change)?;
     let result = judge(change, will_stand(&shard.rows, &shard.pending, id));
     let seq = last_number(shard) + 1;
     shard.pending.push(op)?;
     Ok(Reply::Wrote { result, seq })
 }
 
-/// The operation that a change of a document is.
-fn make_op(alloc: Global, id: &DocId, change: &Change) -> Result<Op, NoMemory>
-    ensures { IfOk result (λ op. op ≡ op_of id.now change.now) }
+/// The operation that a change of a document is, unless the document has a value that is none of its field.
+fn make_op(
+    alloc: Global,
+    mapping: &Mapping,
+    id: &DocId,
+    change: &Change,
+) -> Result<Op, Fail<DocFault>>
+    ensures { Answers result (op_of mapping.now id.now change.now) }
 {
     match change {
         Change::Put(doc) => {
+            let values = fit_doc(alloc, mapping, doc)?;
+            let source = doc.source.copy(alloc)?;
             Ok(Op::Put {
                 id: id.copy(alloc)?,
-                source: doc.source.copy(alloc)?,
-                values: Items::of(Vec::new(alloc)),
+                source,
+                values,
             })
         }
         Change::Remove => {

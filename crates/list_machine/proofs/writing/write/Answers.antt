@@ -1,8 +1,9 @@
-use Rattle.std.proofs.Common.{ap}
+use Rattle.std.proofs.Common.{ap, refl, arith}
+use Rattle.std.proofs.lemmas.List.{length-map}
 use Rattle.std.proofs.lemmas.Result.{on_err_weaker}
 use Rattle.list_machine.specs.Step.{write}
-use Rattle.list_machine.specs.Stores.{indexes_seen}
-use Rattle.list_machine.proofs.IndexLemmas.{found_at, index_of-none, indexes_seen-same, numbered_at, write_done}
+use Rattle.list_machine.specs.Stores.{indexes_seen, shard_seen}
+use Rattle.list_machine.proofs.IndexLemmas.{counted_at, found_at, index_of-none, indexes_seen-same, write_done}
 use Rattle.list_machine.proofs.writing.write.Goals as goal
 
 pub returns-in_default-clause-ok : goal.returns-in_default-clause-ok
@@ -10,20 +11,28 @@ returns-in_default-clause-ok c state =
     ap (λ found. write (record state { indexes = indexes_seen c.args.indexes.now.items }) c.args.id.now c.args.change.now found)
     (index_of-none c.args.name.now c.args.indexes.now.items c.deref.result.now c.place_of.result c.deref.ensures.value c.place_of.ensures c.in_default.is)
 
-pub write_shard-requires : goal.write_shard-requires
-write_shard-requires c =
-    let found = found_at c.args.name.now c.args.indexes.now.items c.deref.result.now c.in-Some.at c.index_mut.result.now c.place_of.result
-    c.deref.ensures.value c.place_of.ensures c.in-Some.is c.index_mut.ensures.value in
-    numbered_at found _ c.requires
+pub write_in-requires : goal.write_in-requires
+write_in-requires c =
+    let store = c.index_mut-index.result.now in
+    let found = found_at c.args.name.now c.args.indexes.now.items c.deref.result.now c.in-Some.at store c.place_of.result
+    c.deref.ensures.value c.place_of.ensures c.in-Some.is c.index_mut-index.ensures.value in
+    let counted = counted_at found _ c.requires in
+    record {
+      some = omega (arith, counted.some, length-map store.shards.items shard_seen);
+      few = omega (arith, counted.few, length-map store.shards.items shard_seen);
+      numbers = counted.numbers;
+    }
 
 pub returns-clause-ok : goal.returns-clause-ok
 returns-clause-ok c =
-    let found = found_at c.args.name.now c.args.indexes.now.items c.deref.result.now c.in-Some.at c.index_mut.result.now c.place_of.result
-    c.deref.ensures.value c.place_of.ensures c.in-Some.is c.index_mut.ensures.value in
-    write_done found c.args.id.now c.args.change.now c.write_shard.new.shard c.write_shard.result c.write_shard.ensures.ok
+    let store = c.index_mut-index.result.now in
+    let found = found_at c.args.name.now c.args.indexes.now.items c.deref.result.now c.in-Some.at store c.place_of.result
+    c.deref.ensures.value c.place_of.ensures c.in-Some.is c.index_mut-index.ensures.value in
+    write_done found c.args.id.now c.args.change.now (record store { shards = c.write_in.new.shards }) (record { name = refl; mapping = refl }) c.write_in.result c.write_in.ensures.ok
 
 pub returns-clause-err : goal.returns-clause-err
 returns-clause-err c =
-    let found = found_at c.args.name.now c.args.indexes.now.items c.deref.result.now c.in-Some.at c.index_mut.result.now c.place_of.result
-    c.deref.ensures.value c.place_of.ensures c.in-Some.is c.index_mut.ensures.value in
-    on_err_weaker c.write_shard.result (λ same. indexes_seen-same found c.write_shard.new.shard same) c.write_shard.ensures.err
+    let store = c.index_mut-index.result.now in
+    let found = found_at c.args.name.now c.args.indexes.now.items c.deref.result.now c.in-Some.at store c.place_of.result
+    c.deref.ensures.value c.place_of.ensures c.in-Some.is c.index_mut-index.ensures.value in
+    on_err_weaker c.write_in.result (λ same. indexes_seen-same found (record store { shards = c.write_in.new.shards }) (record { name = refl; mapping = refl }) same) c.write_in.ensures.err

@@ -1,7 +1,7 @@
 -- What is left makes of the rows so far what all operations make of the first ones, and there is room for it.
 use Rattle.std.proofs.Common.{◌≡◌, ◌+◌, ◌<◌, ◌≤◌, ◌^◌, vec_capacity, vec_len}
 use Rattle.list_machine.specs.Rows.{apply_all}
-use Rattle.list_machine.proofs.publishing.apply_each.Given as goal
+use Rattle.list_machine.proofs.publishing.apply_ops.Given as goal
 
 abbrev pub invariant-loop-op : goal.invariant-loop-op
 invariant-loop-op l = record {

@@ -1,0 +1,4 @@
+pub mod StandingLemmas
+pub mod BookLemmas
+pub mod IndexLemmas
+pub mod StepLemmas

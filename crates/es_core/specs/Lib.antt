@@ -1,0 +1,6 @@
+pub mod Seen
+pub mod Standing
+pub mod Indexes
+pub mod Contexts
+pub mod Steps
+pub mod Stands

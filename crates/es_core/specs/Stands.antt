@@ -1,0 +1,40 @@
+-- The history that a core stands for.
+use Rattle.std.specs.Prelude.{◌≡◌, ℕ, ◌<◌, ◌≤◌, [], ◌∷◌, ◌++◌, length, map, filter, All}
+use Rattle.list_machine.specs.declared.event.Entry.{Entry}
+use Rattle.list_machine.specs.declared.event.Event.{Event}
+use Rattle.list_machine.specs.declared.event.Limits.{Limits}
+use Rattle.list_machine.specs.declared.event.Reply.{Reply}
+use Rattle.list_machine.specs.State.{is_live}
+use Rattle.list_machine.specs.Run.{CreatesSome, History, PutsObject, reply_of, state_of}
+use Rattle.es_core.specs.declared.node.Core.{Core}
+use Rattle.es_core.specs.declared.turned.Turned.{Turned}
+use Rattle.es_core.specs.declared.turned.Turned.TheVariants.{Now}
+use Rattle.es_core.specs.Seen.{index_seen}
+
+-- The core stands for the state that the history leads to: its indexes, next number, moment and limits are those of
+-- the state, and so are the contexts that are live or may be said to be. Those that are no longer live may be gone.
+pub record Stands (limits : Limits) (core : Core) (history : History) : Type 0 where
+  pub limits_are : core.limits ≡ limits
+  pub moment : core.moment ≡ (state_of limits history).moment
+  pub next : core.next ≡ (state_of limits history).next
+  pub indexes : map index_seen core.indexes.items ≡ (state_of limits history).indexes
+  pub contexts : (moment : ℕ) → (state_of limits history).moment ≤ moment
+      → filter (is_live moment) core.book ≡ filter (is_live moment) (state_of limits history).contexts
+  pub objects : All (λ (entry : Entry). PutsObject entry.event) history
+  pub creates : All (λ (entry : Entry). CreatesSome entry.event) history
+
+-- the answer of a turn is this reply
+abbrev pub Replies : Reply → Turned → Type 0
+Replies reply (Now said) = said ≡ reply
+
+-- Whatever history the core stood for, of fewer than 2^53 entries, it now stands for that history and the entry,
+-- and the answer is the machine's reply behind that history.
+abbrev pub Turns : Core → Core → Event → ℕ → Turned → Type 0
+Turns old new event moment turned =
+    (limits : Limits) (history : History) (who : ℕ) → Stands limits old history → length history < 9007199254740992
+    → Stands limits new (history ++ record { who = who; moment = moment; event = event } ∷ [])
+    × Replies (reply_of limits history (record { who = who; moment = moment; event = event })) turned
+
+-- nothing has changed: the core stands for what it stood for
+abbrev pub StandsOn : Core → Core → Type 0
+StandsOn old new = (limits : Limits) (history : History) → Stands limits old history → Stands limits new history

@@ -1,0 +1,86 @@
+ghost use Rattle.std.specs.Prelude.{◌≡◌, IfOk};
+ghost use Rattle.list_machine.specs.declared.event.Event.TheVariants.{Seal};
+ghost use Rattle.list_machine.specs.State.{view_of};
+ghost use Rattle.list_machine.specs.Step.{happen};
+ghost use Rattle.list_machine.specs.Stores.{IsSmall, context_seen, view_seen};
+ghost use Rattle.es_core.specs.Contexts.{found, live_context, search_reply};
+ghost use Rattle.es_core.specs.Indexes.{AllNumbered, Moves, Placed};
+ghost use Rattle.es_core.specs.Seen.{index_seen};
+
+use crate::book::Book;
+use crate::index::Index;
+use crate::places::place_of;
+use es_types::{Copied, IndexName, Items, Moment, NoMemory};
+use list_machine::{ContextStore, Reply, SearchRequest, Target, answer};
+use std::alloc::Global;
+use std::collections::BTreeMap;
+
+/// The number of the last operation of each shard.
+pub fn seal(
+    alloc: Global,
+    places: &BTreeMap<String, usize>,
+    indexes: &[Index],
+    name: &IndexName,
+) -> Result<Reply, NoMemory>
+    requires { Placed places.now indexes.now }
+    ensures { IfOk result (λ reply. AllNumbered indexes.now → Moves (λ state. happen state (Seal name.now)) indexes.now indexes.now reply) }
+{
+    let Some(at) = place_of(places, name) else {
+        return Ok(Reply::NoIndex);
+    };
+    let numbers = indexes[at].seal(alloc)?;
+    Ok(Reply::Sealed(Items::of(numbers)))
+}
+
+/// A context of an index as it is now.
+pub fn make_context(
+    alloc: Global,
+    index: &Index,
+    number: u64,
+    expiry: u64,
+) -> Result<ContextStore, NoMemory>
+    ensures seen { IfOk result (λ context. context_seen context ≡ record { number = number; view = view_of (index_seen index.now); expiry = expiry }) }
+    ensures number { IfOk result (λ context. context.number ≡ number) }
+    ensures small { IfOk result (λ context. IsSmall (view_seen context)) }
+{
+    let name = index.name.copy(alloc)?;
+    let mapping = index.mapping.copy(alloc)?;
+    Ok(ContextStore {
+        number,
+        index: name,
+        mapping,
+        shards: index.view(alloc)?,
+        expiry,
+    })
+}
+
+/// Searches the view of a context that is live.
+pub fn search(
+    alloc: Global,
+    book: &Book,
+    moment: Moment,
+    target: &Target,
+    request: &SearchRequest,
+) -> Result<Reply, NoMemory>
+    ensures { IfOk result (λ reply. reply ≡ search_reply request.now target.now moment book.now) }
+{
+    match target {
+        Target::Pit { number } => search_pit(alloc, book, moment, *number, request),
+    }
+}
+
+fn search_pit(
+    alloc: Global,
+    book: &Book,
+    moment: Moment,
+    number: u64,
+    request: &SearchRequest,
+) -> Result<Reply, NoMemory>
+    ensures { IfOk result (λ reply. reply ≡ found request.now (live_context number moment book.now)) }
+{
+    let Some(context) = book.find(number, moment) else {
+        return Ok(Reply::Missing);
+    };
+    let it = answer(alloc, context, request)?;
+    Ok(Reply::Found(it))
+}

@@ -1,0 +1,160 @@
+ghost use Rattle.std.specs.Prelude.{◌≡◌, ◌<◌, ℕ, List, [], All, IfOk, OnErr, bytes_eq, position};
+ghost use Rattle.std.specs.BTreeMap.{get_by_text};
+
+use crate::book::Book;
+use crate::creating::{create, put_down};
+use crate::index::Index;
+use crate::looking::{make_context, seal, search};
+use crate::places::place_of;
+use crate::publishing::publish;
+use crate::writing::write;
+use crate::{Brought, Totals, Turned};
+use es_types::{IndexName, KeepAlive, Mapping, Moment, NoMemory};
+use list_machine::{Event, Limits, Reply, docs, sound_states};
+use std::alloc::Global;
+use std::collections::BTreeMap;
+
+/// The state of the service. Indexes are found by their names, and contexts by their numbers.
+#[derive(Drop)]
+pub struct Core {
+    alloc: Global,
+    limits: Limits,
+    moment: Moment,
+    next: u64,
+    places: BTreeMap<String, usize>,
+    indexes: Vec<Index>,
+    book: Book,
+    ghost placed: { (name : List ℕ) → get_by_text places name ≡ position (λ index. bytes_eq index.name name) indexes.items },
+    ghost issued: { All (λ context. context.number < next) book },
+}
+
+impl Core {
+    ghost use Rattle.list_machine.specs.declared.event.Event.TheVariants.{OpenPit};
+    ghost use Rattle.list_machine.specs.Run.{CreatesSome, PutsObject};
+    ghost use Rattle.es_core.specs.Stands.{Stands, StandsOn, Turns};
+    ghost use Rattle.es_core.specs.Steps.{IsSame, Steps};
+
+    /// A core with the empty index `docs`, which stands for the empty history.
+    pub fn make(alloc: Global, limits: Limits) -> Result<Core, NoMemory>
+        ensures { IfOk result (λ core. Stands limits core []) }
+    {
+        let mut places = BTreeMap::new(alloc);
+        let mut indexes = Vec::new(alloc);
+        let index = Index::make(alloc, docs(alloc)?, Mapping::empty(alloc), 1)?;
+        put_down(alloc, &mut places, &mut indexes, index)?;
+        Ok(Core {
+            alloc,
+            limits,
+            moment: Moment::zero(),
+            next: 1,
+            places,
+            indexes,
+            book: Book::make(alloc),
+        })
+    }
+
+    /// Takes the step of an entry of the history. After `NoMemory` nothing has changed.
+    pub fn turn(
+        &mut self,
+        event: &Event,
+        moment: Moment,
+        _brought: Brought,
+    ) -> Result<Turned, NoMemory>
+        requires object { PutsObject event.now }
+        requires creates { CreatesSome event.now }
+        ensures turns { IfOk result (Turns self.old self.new event.now moment) }
+        ensures err { OnErr result (StandsOn self.old self.new) }
+    {
+        sound_states();
+        let later = self.moment.later(moment);
+        let reply = self.happen(event, later)?;
+        self.moment = later;
+        Ok(Turned::Now(reply))
+    }
+
+    fn happen(&mut self, event: &Event, moment: Moment) -> Result<Reply, NoMemory>
+        requires { CreatesSome event.now }
+        ensures steps { IfOk result (Steps self.old self.new moment event.now) }
+        ensures err { OnErr result (IsSame self.old self.new) }
+    {
+        match event {
+            Event::Create {
+                index,
+                shards,
+                mapping,
+            } => create(
+                self.alloc,
+                &mut self.places,
+                &mut self.indexes,
+                index,
+                *shards,
+                mapping,
+            ),
+            Event::Write { index, id, change } => write(
+                self.alloc,
+                &self.places,
+                &mut self.indexes,
+                index,
+                id,
+                change,
+            ),
+            Event::Seal { index } => seal(self.alloc, &self.places, &self.indexes, index),
+            Event::Publish { index, shard, upto } => {
+                publish(&self.places, &mut self.indexes, index, *shard, *upto)
+            }
+            Event::OpenPit { index, keep } => self.open_pit(moment, index, keep),
+            Event::Search { target, request } => {
+                search(self.alloc, &self.book, moment, target, request)
+            }
+            Event::Quiet => Ok(Reply::Done),
+        }
+    }
+
+    /// Copies the rows of an index into a new context, unless as many as may be are live.
+    fn open_pit(
+        &mut self,
+        moment: Moment,
+        name: &IndexName,
+        keep: &KeepAlive,
+    ) -> Result<Reply, NoMemory>
+        ensures steps { IfOk result (Steps self.old self.new moment (OpenPit name.now keep.now)) }
+        ensures err { OnErr result (IsSame self.old self.new) }
+    {
+        let Some(at) = place_of(&self.places, name) else {
+            return Ok(Reply::NoIndex);
+        };
+        let limit = self.limits.pits;
+        if self.book.live(moment) == limit {
+            return Ok(Reply::TooMany { limit });
+        }
+        let number = self.next;
+        if number == u64::MAX {
+            // No number is left, which needs a longer history than there may be.
+            return Ok(Reply::Spent);
+        }
+        let expiry = moment.millis() + keep.millis();
+        let context = make_context(self.alloc, &self.indexes[at], number, expiry)?;
+        self.book.open(context)?;
+        self.next = number + 1;
+        Ok(Reply::Opened { number })
+    }
+
+    pub fn totals(&self) -> Totals
+        ensures { result ≡ record { opened = 0; closed = 0; ended = 0; segments = 0; left = 0 } }
+    {
+        Totals {
+            opened: 0,
+            closed: 0,
+            ended: 0,
+            segments: 0,
+            left: 0,
+        }
+    }
+
+    /// Ends the core, and says what is left.
+    pub fn finish(self) -> Totals
+        ensures { result ≡ record { opened = 0; closed = 0; ended = 0; segments = 0; left = 0 } }
+    {
+        self.totals()
+    }
+}

@@ -1,0 +1,168 @@
+ghost use Rattle.std.specs.Prelude.{◌≡◌, ◌+◌, ◌<◌, ◌≤◌, ◌^◌, ◌-◌, ◌||◌, ℕ, List, [], false, length, min, not, bytes_eq, IfOk, OnOk, OnErr};
+ghost use Rattle.std.specs.BTreeSet.{contains_text};
+ghost use Rattle.list_machine.specs.Rows.{has_id, last_number as last_number_of, rows_to_come};
+ghost use Rattle.list_machine.specs.State.{id_of};
+ghost use Rattle.list_machine.specs.Step.{append_op, is_full as is_full_shard, shard_limit};
+ghost use Rattle.es_core.specs.Standing.{did, is_refused, publish_of, stands_after};
+
+use es_types::{Copied, DocId, Fail, NoMemory, Op, Row};
+use list_machine::{Wrote, apply_ops};
+use std::alloc::Global;
+use std::collections::BTreeSet;
+use std::marker::Model;
+use std::mem;
+
+/// As many rows and waiting operations as a shard may have.
+const SHARD_LIMIT: usize = 2_147_483_647;
+
+/// A shard has as many rows and waiting operations as it may have.
+#[derive(Drop)]
+pub struct ShardFull;
+
+/// A shard: the rows that a search sees, the operations that wait, and the ids that have a row once those are applied.
+#[derive(Drop)]
+pub struct Shard {
+    base: u64,
+    rows: Vec<Row>,
+    pending: Vec<Op>,
+    standing: BTreeSet<String>,
+}
+
+impl Model for Shard {
+    ghost use Rattle.std.specs.Prelude.{◌≡◌, ◌+◌, ◌≤◌, ℕ, List, length};
+    ghost use Rattle.std.specs.BTreeSet.{contains_text};
+    ghost use Rattle.list_machine.specs.Rows.{Shard as Seen, apply_all, has_id};
+    ghost use Rattle.list_machine.specs.Step.{shard_limit};
+
+    ghost Value = { Seen };
+
+    ghost view = { λ s. record { base = s.base; rows = s.rows.items; pending = s.pending.items } };
+
+    // The ids that stand are those of the rows to come, and the shard is not over-full.
+    ghost invariant = { λ s. ((id : List ℕ) → contains_text s.standing id ≡ has_id id (apply_all s.rows.items s.base s.pending.items)) × (length s.rows.items + length s.pending.items ≤ shard_limit) };
+}
+
+impl Shard {
+    /// A shard with nothing in it.
+    pub fn make(alloc: Global) -> Shard
+        ensures { result ≡ record { base = 0; rows = []; pending = [] } }
+    {
+        Shard {
+            base: 0,
+            rows: Vec::new(alloc),
+            pending: Vec::new(alloc),
+            standing: BTreeSet::new(alloc),
+        }
+    }
+
+    /// The number of the last operation, where it fits.
+    pub fn seal(&self) -> u64
+        ensures { result ≡ min (last_number_of self.now) (2 ^ 64 - 1) }
+    {
+        self.base.saturating_add(self.pending.len() as u64)
+    }
+
+    /// A copy of the rows that a search sees.
+    pub fn view(&self, alloc: Global) -> Result<Vec<Row>, NoMemory>
+        ensures rows { IfOk result (λ rows. rows.items ≡ self.now.rows) }
+        ensures few { IfOk result (λ rows. length rows.items ≤ shard_limit) }
+    {
+        copy_rows(alloc, &self.rows)
+    }
+
+    /// Adds an operation, and says what it did and its number. After an error nothing has changed.
+    pub fn write(&mut self, alloc: Global, op: Op) -> Result<(Wrote, u64), Fail<ShardFull>>
+        ensures full { is_refused result ≡ is_full_shard self.old }
+        ensures op { OnOk result (self.new ≡ append_op self.old op) }
+        ensures did { IfOk result (λ it. it.0 ≡ did op (has_id (id_of op) (rows_to_come self.old))) }
+        ensures number { last_number_of self.old < 2 ^ 53 → IfOk result (λ it. it.1 ≡ last_number_of self.old + 1) }
+        ensures err { OnErr result (self.new ≡ self.old) }
+    {
+        if self.is_full() {
+            return Err(Fail::Is(ShardFull));
+        }
+        let number = self.seal().saturating_add(1);
+        let wrote = self.append(alloc, op)?;
+        Ok((wrote, number))
+    }
+
+    fn is_full(&self) -> bool
+        ensures { result ≡ is_full_shard self.now }
+    {
+        self.rows.len() + self.pending.len() >= SHARD_LIMIT
+    }
+
+    /// Room is made before the operation is put down, so that nothing has changed where there is none.
+    fn append(&mut self, alloc: Global, op: Op) -> Result<Wrote, NoMemory>
+        requires { is_full_shard self.old ≡ false }
+        ensures op { OnOk result (self.new ≡ append_op self.old op) }
+        ensures did { IfOk result (λ it. it ≡ did op (has_id (id_of op) (rows_to_come self.old))) }
+        ensures err { OnErr result (self.new ≡ self.old) }
+    {
+        self.pending.reserve(1)?;
+        let wrote = mark(alloc, &mut self.standing, &op)?;
+        self.pending.push_reserved(op);
+        Ok(wrote)
+    }
+
+    /// Applies the operations up to a number. A number that no operation has yet changes nothing.
+    pub fn publish(&mut self, upto: u64) -> Result<(), NoMemory>
+        ensures ok { OnOk result (self.new ≡ publish_of self.old upto) }
+        ensures err { OnErr result (self.new ≡ self.old) }
+    {
+        if self.seal() < upto || upto <= self.base {
+            return Ok(());
+        }
+        let count = (upto - self.base) as usize;
+        self.rows.reserve(count)?;
+        let waiting = self.pending.split_off(count)?;
+        let ops = mem::replace(&mut self.pending, waiting);
+        apply_ops(&mut self.rows, self.base, ops);
+        self.base = upto;
+        Ok(())
+    }
+}
+
+fn copy_rows(alloc: Global, rows: &[Row]) -> Result<Vec<Row>, NoMemory>
+    ensures { IfOk result (λ copies. copies.items ≡ rows.now) }
+{
+    let mut copies = Vec::with_capacity(alloc, rows.len())?;
+    for row in rows {
+        copies.push(row.copy(alloc)?)?;
+    }
+    Ok(copies)
+}
+
+/// Brings the ids that stand up to an operation, and says what it did.
+fn mark(alloc: Global, standing: &mut BTreeSet<String>, op: &Op) -> Result<Wrote, NoMemory>
+    ensures did { IfOk result (λ it. it ≡ did op.now (contains_text standing.old (id_of op.now))) }
+    ensures after { OnOk result ((id : List ℕ) → contains_text standing.new id ≡ stands_after op.now id (contains_text standing.old id)) }
+    ensures err { OnErr result ((id : List ℕ) → contains_text standing.new id ≡ contains_text standing.old id) }
+{
+    match op {
+        Op::Put { id, .. } => Ok(if enter(alloc, standing, id)? {
+            Wrote::Created
+        } else {
+            Wrote::Updated
+        }),
+        Op::Remove { id } => Ok(if standing.remove(id.text().as_str()) {
+            Wrote::Deleted
+        } else {
+            Wrote::NotFound
+        }),
+    }
+}
+
+/// Enters an id, and says whether it is new.
+fn enter(alloc: Global, standing: &mut BTreeSet<String>, id: &DocId) -> Result<bool, NoMemory>
+    ensures is_new { IfOk result (λ it. it ≡ not (contains_text standing.old id.now)) }
+    ensures after { OnOk result ((other : List ℕ) → contains_text standing.new other ≡ (bytes_eq id.now other || contains_text standing.old other)) }
+    ensures err { OnErr result ((other : List ℕ) → contains_text standing.new other ≡ contains_text standing.old other) }
+{
+    let text = id.text().as_str();
+    if standing.contains(text) {
+        return Ok(false);
+    }
+    standing.insert(String::from_str(alloc, text)?)?;
+    Ok(true)
+}

@@ -1,0 +1,8 @@
+-- What a core's turn says of the history and its reply.
+use Rattle.es_node.specs.Solo.{Advances, AreOwn}
+use Rattle.es_node.proofs.solo.advance.Goals as goal
+
+pub returns-clause-advances : goal.returns-clause-advances
+returns-clause-advances c = λ limits history stands small.
+    let t = c.in_ok-turned.ensures.turns limits history c.args.entry.who stands small in
+    (t.0, c.reply_of.ensures.given _ t.1)

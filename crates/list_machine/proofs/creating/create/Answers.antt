@@ -1,0 +1,17 @@
+use Rattle.std.proofs.Common.{ap}
+use Rattle.list_machine.specs.Step.{create}
+use Rattle.list_machine.specs.Stores.{indexes_seen}
+use Rattle.list_machine.proofs.IndexLemmas.{create_done, index_of-none, some_index}
+use Rattle.list_machine.proofs.creating.create.Goals as goal
+
+pub returns-in-Some-clause-ok : goal.returns-in-Some-clause-ok
+returns-in-Some-clause-ok c state =
+    let some = some_index c.args.name.now c.args.indexes.now.items c.deref.result.now _ c.place_of.result
+    c.deref.ensures.value c.place_of.ensures c.in-Some.is in
+    ap (create (record state { indexes = indexes_seen c.args.indexes.now.items }) c.args.name.now c.args.shards c.args.mapping.now) some.1
+
+pub returns-in-None-clause-ok : goal.returns-in-None-clause-ok
+returns-in-None-clause-ok c =
+    create_done c.args.indexes.now.items c.add_index.new.indexes.items c.args.name.now c.args.shards c.args.mapping.now
+    (index_of-none c.args.name.now c.args.indexes.now.items c.deref.result.now c.place_of.result c.deref.ensures.value c.place_of.ensures c.in-None.is)
+    c.add_index.result c.add_index.ensures.ok

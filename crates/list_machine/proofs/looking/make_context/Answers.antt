@@ -1,0 +1,21 @@
+use Rattle.std.proofs.Common.{◌≡◌, ℕ, List, ap, ap₂, sym, ◌∙◌, map}
+use Rattle.std.proofs.lemmas.Simd.{map-map}
+use Rattle.es_types.specs.declared.mapping.Field.{Field}
+use Rattle.es_types.specs.declared.row.Row.{Row}
+use Rattle.list_machine.specs.declared.store.ShardStore.{ShardStore}
+use Rattle.list_machine.specs.Rows.{Shard}
+use Rattle.list_machine.specs.State.{Context}
+use Rattle.list_machine.specs.Stores.{shard_seen}
+use Rattle.list_machine.proofs.StoreLemmas.{rows_in}
+use Rattle.list_machine.proofs.looking.make_context.Goals as goal
+
+pub returns : goal.returns
+returns c =
+    let index = c.args.index.now in
+    let context : List ℕ → List Field → List (List Row) → Context =
+    λ name mapping shards. record { number = c.args.number; view = record { index = name; mapping = mapping; shards = shards }; expiry = c.args.expiry } in
+    let name : c.name.inside.0 ≡ index.name = c.name.view_is ∙ c.in_ok-name.ensures in
+    ap₂ (λ name mapping. context name mapping (map rows_in c.in_ok-copy_shards.field-0.items)) name c.in_ok-mapping.ensures
+    ∙ ap (context index.name index.mapping) (c.in_ok-copy_shards.ensures
+    ∙ ap (map (λ (shard : ShardStore). shard.rows.items)) c.deref.ensures.value
+    ∙ sym (map-map (λ (shard : Shard). shard.rows) shard_seen index.shards.items))
