@@ -2,10 +2,10 @@ ghost use Rattle.std.specs.Prelude.{◌≡◌, ◌≤◌, length, map, replicate
 ghost use Rattle.list_machine.specs.State.{most_shards};
 ghost use Rattle.list_machine.specs.Step.{shard_limit};
 
-use crate::homes::{empty_shards, make_op, write_shard};
+use crate::homes::{empty_shards, write_shard};
 use crate::shard::Shard;
 use es_types::{DocId, Fail, IndexName, Mapping, NoMemory, Row, shard_of};
-use list_machine::{Change, Reply};
+use list_machine::{Change, Reply, make_op};
 use std::alloc::Global;
 
 /// An index, which has at least one shard, and no more than all indexes may have together.

@@ -24,3 +24,4 @@ pub use publishing::apply_ops;
 pub use search::{Answer, Counts, Hit, SearchRequest};
 pub use service::Service;
 pub use store::ContextStore;
+pub use writing::make_op;

@@ -78,7 +78,7 @@ fn write_shard(
 }
 
 /// The operation that a change of a document is, unless the document has a value that is none of its field.
-fn make_op(
+pub fn make_op(
     alloc: Global,
     mapping: &Mapping,
     id: &DocId,
