@@ -34,6 +34,61 @@ def many_documents(count):
         yield from request(b"POST /_search", pit, b',"search_after":[%d]}' % after)
 
 
+def small_puts(count):
+    """Small documents without a refresh between them."""
+    for number in range(count):
+        yield from request(b"PUT /docs/_doc/d%d" % number, b'{"n":%d}' % number)
+
+
+def bulk(size, text):
+    """One bulk of about that many bytes, of documents with such a text, each with an id of its own."""
+    def lines():
+        number = 0
+        while True:
+            yield b'{"index":{"_id":"%d"}}\n{"t":"%s"}\n' % (number, text)
+            number += 1
+
+    long, count = 0, 0
+    for line in lines():
+        if long + len(line) > size:
+            break
+        long, count = long + len(line), count + 1
+    yield b"POST /docs/_bulk HTTP/1.1\r\ncontent-length: %d\r\n\r\n" % long
+    for _, line in zip(range(count), lines()):
+        yield line
+
+
+def many_members(count):
+    """One document of so many members, put into an index of 1,000 fields."""
+    fields = b",".join(b'"f%d":{"type":"long"}' % number for number in range(1000))
+    yield from request(b"PUT /t", b'{"mappings":{"properties":{%s}}}' % fields)
+
+    def members():
+        for number in range(count):
+            yield b'%s"f%d":%d' % (b"," if number else b"{", number, number)
+        yield b"}"
+
+    yield b"PUT /t/_doc/a HTTP/1.1\r\ncontent-length: %d\r\n\r\n" % sum(map(len, members()))
+    yield from members()
+
+
+def many_shards(rounds):
+    """Puts, each with a refresh of an index of 1,024 shards."""
+    yield from request(b"PUT /s", b'{"settings":{"number_of_shards":1024}}')
+    for number in range(rounds):
+        yield from request(b"PUT /s/_doc/d%d?refresh" % number, b"{}")
+
+
+def served(sink):
+    """How many responses of a good status there are, read in pieces, since a bulk's response is one long line."""
+    mark, count, rest = b"HTTP/1.1 20", 0, b""
+    while piece := sink.read(MIB):
+        piece = rest + piece
+        count += piece.count(mark)
+        rest = piece[1 - len(mark):]
+    return count
+
+
 def measure(pieces):
     """The bytes of the input, seconds, and the peak memory of the run in bytes."""
     with tempfile.TemporaryFile() as source, tempfile.TemporaryFile() as sink:
@@ -48,7 +103,7 @@ def measure(pieces):
         _, status, usage = os.wait4(child.pid, 0)
         seconds = time.monotonic() - began
         sink.seek(0)
-        good = sum(line.count(b"HTTP/1.1 20") for line in sink)
+        good = served(sink)
     if status != 0 or good != requests:
         sys.exit("status %d, and %d of %d requests were served" % (status, good, requests))
     return size, seconds, usage.ru_maxrss * 1024
@@ -59,24 +114,52 @@ def processor():
         return next((l.split(":")[1].strip() for l in lines if l.startswith("model name")), "unknown")
 
 
+def table(rows):
+    print("\n| input | bytes | seconds | MB/s | peak MiB |\n|---|---|---|---|---|")
+    found = {}
+    for name, pieces in rows:
+        size, seconds, peak = measure(pieces)
+        found[name] = (size, seconds, peak)
+        print("| %s | %d | %.3f | %.1f | %.1f |" % (name, size, seconds, size / seconds / 1e6, peak / MIB))
+    return found
+
+
 def main():
     measure(many_documents(1))  # builds the program where that wasn't done yet
     print(processor())
-    print("\n| input | bytes | seconds | MB/s | peak MiB |\n|---|---|---|---|---|")
-    found = []
-    for name, pieces in (
+    found = table((
         ("one document of 16 MiB", one_document(16 * MIB)),
         ("one document of 64 MiB", one_document(64 * MIB)),
+        ("bulk of 16 MiB, 4 KB each", bulk(16 * MIB, b"x" * 4064)),
+        ("bulk of 64 MiB, 4 KB each", bulk(64 * MIB, b"x" * 4064)),
+        ("bulk of 16 MiB, 40 bytes each", bulk(16 * MIB, b"x" * 30)),
+        ("bulk of 64 MiB, 40 bytes each", bulk(64 * MIB, b"x" * 30)),
+        ("20,000 small puts", small_puts(20000)),
+        ("80,000 small puts", small_puts(80000)),
+        ("100,000 members, 1,000 fields", many_members(100000)),
+        ("1,000,000 members, 1,000 fields", many_members(1000000)),
+        ("100 refreshes of 1,024 shards", many_shards(100)),
+        ("400 refreshes of 1,024 shards", many_shards(400)),
         ("1,000 documents", many_documents(1000)),
         ("4,000 documents", many_documents(4000)),
+    ))
+    failed = False
+    print()
+    for small, large in (
+        ("one document of 16 MiB", "one document of 64 MiB"),
+        ("bulk of 16 MiB, 4 KB each", "bulk of 64 MiB, 4 KB each"),
+        ("bulk of 16 MiB, 40 bytes each", "bulk of 64 MiB, 40 bytes each"),
+        ("20,000 small puts", "80,000 small puts"),
     ):
-        size, seconds, peak = measure(pieces)
-        found.append((seconds, peak))
-        print("| %s | %d | %.3f | %.1f | %.1f |" % (name, size, seconds, size / seconds / 1e6, peak / MIB))
-    longer = found[1][0] / found[0][0]
-    memory = found[1][1] / (64 * MIB)
-    print("\n64 MiB took %.2f times as long as 16 MiB (at most 5), and %.2f times the body in memory (at most 8)." % (longer, memory))
-    sys.exit(longer > 5 or memory > 8)
+        longer = found[large][1] / found[small][1]
+        print("%s: %.2f times as long as %s (at most 5)" % (large, longer, small))
+        failed = failed or longer > 5
+    for name in ("one document of 64 MiB", "bulk of 64 MiB, 4 KB each"):
+        memory = found[name][2] / (64 * MIB)
+        print("%s: %.2f times the body in memory (at most 8)" % (name, memory))
+        failed = failed or memory > 8
+    print("20,000 small puts: %d requests a second" % (20000 / found["20,000 small puts"][1]))
+    sys.exit(failed)
 
 
 if __name__ == "__main__":

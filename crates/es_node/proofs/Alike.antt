@@ -1,7 +1,6 @@
 -- Two runs over the same requests give the same responses.
-use Rattle.std.proofs.Common.{◌≡◌, refl, sym, ap, ap₂, subst, ◌∙◌, ⊎_elim, ℕ, ◌+◌, ◌*◌, List, [], ◌∷◌, ◌++◌, None, Result, Ok, Err, append_assoc}
+use Rattle.std.proofs.Common.{◌≡◌, refl, sym, ap, ap₂, subst, ◌∙◌, ⊎_elim, ℕ, ◌+◌, ◌*◌, List, [], ◌∷◌, None, Result, Ok, Err}
 use Rattle.std.specs.Prelude.{◌≢◌}
-use Rattle.std.proofs.lemmas.List.{append-nil}
 use Rattle.std.proofs.lemmas.List.Elements.{All-head, All-tail}
 use Rattle.std.proofs.lemmas.Option.{same_Some, none-some}
 use Rattle.http_wire.specs.declared.request.Request.{Request}
@@ -10,44 +9,42 @@ use Rattle.list_machine.specs.declared.event.Reply.{Reply}
 use Rattle.list_machine.specs.declared.event.Limits.{Limits}
 use Rattle.list_machine.specs.Run.{History, state_of}
 use Rattle.list_machine.specs.Serving.{Asked, asked, applied}
-use Rattle.es_node.specs.declared.ask.Ask.{Ask}
-use Rattle.es_node.specs.declared.fault.RestFault.{RestFault}
-use Rattle.es_node.specs.declared.fault.RestFault.TheVariants as fault
-use Rattle.es_node.specs.declared.reply.Response.{Response}
-use Rattle.es_node.specs.declared.reply.Response.TheVariants.{Fault}
-use Rattle.es_node.specs.Headline.{requests_of}
+use Rattle.es_rest.specs.declared.ask.Ask.{Ask}
+use Rattle.reply_json.specs.declared.fault.RestFault.{RestFault}
+use Rattle.reply_json.specs.declared.fault.RestFault.TheVariants as fault
+use Rattle.reply_json.specs.declared.response.Response.{Response}
+use Rattle.reply_json.specs.declared.response.Response.TheVariants.{Fault}
+use Rattle.es_rest.specs.Headline.{requests_of}
 use Rattle.es_node.specs.Repeats.{NeverWants, ServesAlone, moments_of}
-use Rattle.es_node.specs.Talk.{Conversation, Exchange, Part, Responds, Served, Serves, Talks, newest_after, next, response_of}
+use Rattle.es_rest.specs.Scripts.{Part, Script, Talks}
+use Rattle.es_rest.specs.Talk.{Conversation, Exchange, Responds, Served, Serves, newest_after, response_of, script_of}
 use Rattle.es_node.proofs.Grown.{Fits, Grew, asked_alike, asked_grew, beside_grew, beside_same, fits_before, grew_not, grew_on}
 
 -- ---- one conversation
 
-talks_grew : (limits : Limits) (moment : ℕ) (ask : Ask) (before : Part) (old new : History) (part : Part) → Talks limits 0 moment ask before old new part → Grew old new
-talks_grew limits moment ask before old new [] same = grew_not old new same
-talks_grew limits moment ask before old new (said ∷ part) talks =
-    grew_on old talks.0 new (asked_grew limits old talks.0 (asked 0 moment said.0) said.1 talks.2) (talks_grew limits moment ask (before ++ said ∷ []) talks.0 new part talks.3)
+talks_grew : (limits : Limits) (moment : ℕ) (script : Script) (old new : History) (part : Part) → Talks limits 0 moment script old new part → Grew old new
+talks_grew limits moment script old new [] same = grew_not old new same
+talks_grew limits moment script old new (said ∷ part) talks =
+    grew_on old talks.0 new (asked_grew limits old talks.0 (asked 0 moment said.0) said.1 talks.2) (talks_grew limits moment (λ rest. script (said ∷ rest)) talks.0 new part talks.3)
 
-talks_alike : (limits : Limits) (moment : ℕ) (ask : Ask) (before : Part) (old new other : History) (part others : Part) → Fits limits new → Fits limits other
-    → Talks limits 0 moment ask before old new part → next ask (before ++ part) ≡ None
-    → Talks limits 0 moment ask before old other others → next ask (before ++ others) ≡ None → (new ≡ other) × (part ≡ others)
-talks_alike limits moment ask before old new other [] [] fits fit t all u every = (t ∙ sym u, refl)
-talks_alike limits moment ask before old new other [] (r ∷ others) fits fit t all u every =
-    absurd (none-some r.0 (sym all ∙ ap (next ask) (append-nil before) ∙ u.1))
-talks_alike limits moment ask before old new other (s ∷ part) [] fits fit t all u every =
-    absurd (none-some s.0 (sym every ∙ ap (next ask) (append-nil before) ∙ t.1))
-talks_alike limits moment ask before old new other (s ∷ part) (r ∷ others) fits fit t all u every =
+talks_alike : (limits : Limits) (moment : ℕ) (script : Script) (old new other : History) (part others : Part) → Fits limits new → Fits limits other
+    → Talks limits 0 moment script old new part → script part ≡ None
+    → Talks limits 0 moment script old other others → script others ≡ None → (new ≡ other) × (part ≡ others)
+talks_alike limits moment script old new other [] [] fits fit t all u every = (t ∙ sym u, refl)
+talks_alike limits moment script old new other [] (r ∷ others) fits fit t all u every = absurd (none-some r.0 (sym all ∙ u.1))
+talks_alike limits moment script old new other (s ∷ part) [] fits fit t all u every = absurd (none-some s.0 (sym every ∙ t.1))
+talks_alike limits moment script old new other (s ∷ part) (r ∷ others) fits fit t all u every =
     let event : r.0 ≡ s.0 = same_Some r.0 s.0 (sym u.1 ∙ t.1) in
     let is : Asked limits 0 4 old u.0 (asked 0 moment s.0) r.1 = subst (λ (e : Event). Asked limits 0 4 old u.0 (asked 0 moment e) r.1) event u.2 in
     let alike = asked_alike limits old t.0 u.0 (asked 0 moment s.0) s.1 r.1
-    (fits_before limits t.0 new (talks_grew limits moment ask (before ++ s ∷ []) t.0 new part t.3) fits)
-    (fits_before limits u.0 other (talks_grew limits moment ask (before ++ r ∷ []) u.0 other others u.3) fit) t.2 is in
+    (fits_before limits t.0 new (talks_grew limits moment (λ rest. script (s ∷ rest)) t.0 new part t.3) fits)
+    (fits_before limits u.0 other (talks_grew limits moment (λ rest. script (r ∷ rest)) u.0 other others u.3) fit) t.2 is in
     let said : r ≡ s = ap₂ (λ (e : Event) (y : Reply). let p : Event × Reply = (e, y) in p) event (sym alike.1) in
-    let rest : Talks limits 0 moment ask (before ++ s ∷ []) t.0 other others
-    = subst (λ (l : History). Talks limits 0 moment ask (before ++ s ∷ []) l other others) (sym alike.0)
-    (subst (λ (p : Event × Reply). Talks limits 0 moment ask (before ++ p ∷ []) u.0 other others) said u.3) in
-    let one = talks_alike limits moment ask (before ++ s ∷ []) t.0 new other part others fits fit
-    t.3 (ap (next ask) (append_assoc before (s ∷ []) part) ∙ all)
-    rest (ap (next ask) (append_assoc before (s ∷ []) others) ∙ ap (λ (p : Event × Reply). next ask (before ++ p ∷ others)) (sym said) ∙ every) in (
+    let rest : Talks limits 0 moment (λ more. script (s ∷ more)) t.0 other others
+    = subst (λ (l : History). Talks limits 0 moment (λ more. script (s ∷ more)) l other others) (sym alike.0)
+    (subst (λ (p : Event × Reply). Talks limits 0 moment (λ more. script (p ∷ more)) u.0 other others) said u.3) in
+    let one = talks_alike limits moment (λ more. script (s ∷ more)) t.0 new other part others fits fit t.3 all
+    rest (ap (λ (p : Event × Reply). script (p ∷ others)) (sym said) ∙ every) in (
       one.0,
       ap₂ (λ (p : Event × Reply) (l : Part). p ∷ l) (sym said) one.1,
     )
@@ -61,7 +58,7 @@ responds_grew limits moment newest old new request response ample h =
     ⊎_elim
     (λ refused. grew_not old new refused.same)
     (λ other. ⊎_elim
-    (λ done. talks_grew limits moment done.ask [] old new done.conversation.part done.conversation.talks)
+    (λ done. talks_grew limits moment (script_of done.ask) old new done.conversation.part done.conversation.talks)
     (λ wants. absurd (ample wants.is))
     other)
     h
@@ -76,9 +73,9 @@ not_both : (r : Result Ask RestFault) (a : Ask) (b : RestFault) → r ≡ Ok a �
 not_both r a b x y = cc
 
 converse_alike : (limits : Limits) (moment : ℕ) (ask : Ask) (old new other : History) (response said : Response) → Fits limits new → Fits limits other
-    → Conversation limits 0 moment ask [] old new response → Conversation limits 0 moment ask [] old other said → (new ≡ other) × (response ≡ said)
+    → Conversation limits 0 moment ask old new response → Conversation limits 0 moment ask old other said → (new ≡ other) × (response ≡ said)
 converse_alike limits moment ask old new other response said fits fit h k =
-    let one = talks_alike limits moment ask [] old new other h.part k.part fits fit h.talks h.all k.talks k.all in
+    let one = talks_alike limits moment (script_of ask) old new other h.part k.part fits fit h.talks h.all k.talks k.all in
     (one.0, h.is ∙ ap (response_of ask) one.1 ∙ sym k.is)
 
 responds_alike : (limits : Limits) (moment newest : ℕ) (old new other : History) (request : Request) (response said : Response)
@@ -99,7 +96,7 @@ responds_alike limits moment newest old new other request response said ample en
     (λ refused. absurd (not_both _ done.ask refused.fault done.route refused.route))
     (λ rest. ⊎_elim
     (λ again. converse_alike limits moment done.ask old new other response said fits fit done.conversation
-    (subst (λ (a : Ask). Conversation limits 0 moment a [] old other said) (same_ask _ again.ask done.ask again.route done.route) again.conversation))
+    (subst (λ (a : Ask). Conversation limits 0 moment a old other said) (same_ask _ again.ask done.ask again.route done.route) again.conversation))
     (λ wants. absurd (enough wants.is))
     rest)
     k)

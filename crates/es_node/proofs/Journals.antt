@@ -1,5 +1,5 @@
 -- The journal of a service with one caller.
-use Rattle.std.proofs.Common.{◌≡◌, MatchResult, Result, Ok, Err, refl, sym, ap, subst, ◌∙◌, inl, inr, ℕ, ◌+◌, ◌<◌, ◌≤◌, [], ◌∷◌, ◌++◌, length, arith, length-append}
+use Rattle.std.proofs.Common.{◌≡◌, MatchResult, Result, Ok, Err, refl, sym, ap, subst, ◌∙◌, inl, inr, ℕ, ◌<◌, ◌≤◌, [], ◌∷◌, ◌++◌, length, arith, length-append}
 use Rattle.std.specs.Prelude.{IfOk, OnErr}
 use Rattle.std.proofs.lemmas.List.{append-nil}
 use Rattle.std.proofs.lemmas.List.Elements.{All-nil, All-cons, All-append}
@@ -15,7 +15,7 @@ use Rattle.list_machine.specs.Serving.{Asked, IsAskable, IsKept, MayHaveAsked, a
 use Rattle.es_core.specs.declared.node.Core.{Core}
 use Rattle.es_core.specs.Stands.{Stands, StandsOn}
 use Rattle.es_node.specs.Solo.{Advances, IsRunning}
-use Rattle.es_node.proofs.Talks.{grows_not}
+use Rattle.es_rest.proofs.Talks.{grows_not}
 
 -- what may be asked puts objects alone
 pub askable_object : (limits : Limits) (history : History) (event : Event) → IsAskable limits history event → PutsObject event

@@ -1,9 +1,4 @@
 pub mod Journals
-pub mod Json
-pub mod Printed
-pub mod Progress
-pub mod Talks
-pub mod Turns
 pub mod CommandWords
 pub mod Grown
 pub mod Alike

@@ -1,10 +1,3 @@
-pub mod Ids
-pub mod Bodies
-pub mod Route
-pub mod Replies
-pub mod Talk
-pub mod Headline
-pub mod Turns
 pub mod Solo
 pub mod Running
 pub mod Repeats

@@ -6,34 +6,18 @@ use Rattle.http_wire.specs.Requests.{Spells, connection_limit}
 use Rattle.list_machine.specs.declared.event.Limits.{Limits}
 use Rattle.list_machine.specs.Run.{History}
 use Rattle.list_machine.specs.Serving.{IsKept}
-use Rattle.es_node.specs.declared.connection.ConnEnd.{ConnEnd}
-use Rattle.es_node.specs.declared.connection.ConnEnd.TheVariants as end
 use Rattle.es_node.specs.declared.run.Status.{Status}
 use Rattle.es_node.specs.declared.run.Status.TheVariants.{Done, Refused, NoMemory, Truncated, TooMuch}
-use Rattle.es_node.specs.declared.reply.Response.TheVariants.{Fault}
-use Rattle.es_node.specs.declared.fault.RestFault.TheVariants as fault
-use Rattle.es_node.specs.Talk.{Exchange, Serves}
-use Rattle.es_node.specs.Headline.{Headline, requests_of}
+use Rattle.reply_json.specs.declared.response.Response.TheVariants.{Fault}
+use Rattle.reply_json.specs.declared.fault.RestFault.TheVariants as fault
+use Rattle.es_rest.specs.Talk.{Exchange, Serves}
+use Rattle.es_rest.specs.Headline.{requests_of}
 use Rattle.es_node.specs.Solo.{AreOwn}
 use Rattle.es_node.specs.Running.{ServedOne}
 
 -- ---- a whole input
 
--- all of these requests of a connection were answered
-pub record ServesAll (limits : Limits) (seat : ℕ) (old new : History) (left after written now : Option (List ℕ)) (last : Option ℕ) (greatest : ℕ) (requests : List Request) : Type 0 where
-  pub headline : Headline limits seat old new left after written now last greatest end.Done
-  pub all : requests_of headline.served ≡ requests
-
--- Where what is left of a connection is these requests and no more, and no fault was counted, all are answered, or
--- memory was wanted.
-abbrev pub ServesWhole : Limits → ℕ → History → History → Option (List ℕ) → Option (List ℕ) → Option (List ℕ) → Option (List ℕ) → Option ℕ → ℕ → ℕ → ℕ → ℕ → ℕ → ConnEnd → Type 0
-ServesWhole limits seat old new None after written now last greatest reads reads_after writes writes_after ended = Unit {0}
-ServesWhole limits seat old new (Some bytes) after written now last greatest reads reads_after writes writes_after ended =
-    (requests : List Request) → Spells bytes requests [] → length bytes ≤ connection_limit
-    → (Rose reads reads_after → ⊥) → (Rose writes writes_after → ⊥)
-    → (ended ≡ end.NoMemory) ⊎ ((ended ≡ end.Done) × ServesAll limits seat old new (Some bytes) after written now last greatest requests)
-
--- the same of a run
+-- all of these requests of a run were answered
 pub record AnswersAll (requests : List Request) (left after written now : Option (List ℕ)) : Type 0 where
   pub one : ServedOne left after written now Done
   pub all : requests_of one.headline.served ≡ requests

@@ -3,11 +3,11 @@ use Rattle.std.specs.Prelude.{◌≡◌, ◌⊎◌, ℕ, Bool, false, bytes_eq, 
 use Rattle.list_machine.specs.declared.event.Limits.{Limits}
 use Rattle.list_machine.specs.Run.{History}
 use Rattle.list_machine.specs.Serving.{IsKept}
-use Rattle.es_node.specs.declared.connection.ConnEnd.{ConnEnd}
-use Rattle.es_node.specs.declared.connection.ConnEnd.TheVariants as end
+use Rattle.es_rest.specs.declared.connection.ConnEnd.{ConnEnd}
+use Rattle.es_rest.specs.declared.connection.ConnEnd.TheVariants as end
 use Rattle.es_node.specs.declared.run.Status.{Status}
 use Rattle.es_node.specs.declared.run.Status.TheVariants.{Done, Refused, Usage, ReadFault, WriteFault, NoMemory, Truncated, TooMuch}
-use Rattle.es_node.specs.Headline.{Headline}
+use Rattle.es_rest.specs.Headline.{Headline}
 use Rattle.es_node.specs.Solo.{AreOwn}
 
 -- the one word `replay`

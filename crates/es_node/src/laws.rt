@@ -2,10 +2,10 @@ ghost use Rattle.std.specs.Prelude.{◌≡◌, ℕ, List, Option, Some};
 ghost use Rattle.list_machine.specs.declared.event.Limits.{Limits};
 ghost use Rattle.list_machine.specs.Run.{History};
 ghost use Rattle.es_node.specs.declared.run.Status.{Status};
-ghost use Rattle.es_node.specs.Headline.{requests_of};
+ghost use Rattle.es_rest.specs.Headline.{requests_of};
 ghost use Rattle.es_node.specs.Repeats.{EndsItself, NeverWants, ServesAlone, moments_of};
 ghost use Rattle.es_node.specs.Running.{ServedOne};
-ghost use Rattle.es_node.specs.Talk.{Exchange};
+ghost use Rattle.es_rest.specs.Talk.{Exchange};
 
 /// With ample memory the responses are a function of the requests and their moments, and what the command `replay`
 /// writes is a function of the bytes that it reads.

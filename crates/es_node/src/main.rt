@@ -6,18 +6,10 @@ ghost use Rattle.std.specs.Prelude.{◌≡◌, ◌↔◌, false};
 ghost use Rattle.es_node.specs.Running.{is_replay};
 
 mod adapter;
-mod ask;
-mod body;
-mod connection;
-mod converse;
-mod fault;
-mod found;
-mod frame;
-mod ids;
 mod laws;
-mod refused;
-mod reply;
 mod run;
+#[cfg(test)]
+mod sessions;
 mod solo;
 #[cfg(test)]
 mod tests;

@@ -3,9 +3,9 @@ ghost use Rattle.es_outside.specs.Told.{Rose};
 ghost use Rattle.es_node.specs.Repeats.{Completes};
 ghost use Rattle.es_node.specs.Running.{Replays, end_status, is_replay, status_code};
 
-use crate::connection::{ConnEnd, serve_connection};
 use crate::solo::Solo;
 use es_outside::{Pair, ReplayClock, Sink, Source};
+use es_rest::{ConnEnd, serve_connection};
 use es_types::Text;
 use list_machine::Limits;
 use std::alloc::Global;

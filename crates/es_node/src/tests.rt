@@ -1,4 +1,4 @@
-//! Worked runs over memory.
+//! How runs over memory end.
 ghost use Rattle.std.specs.Prelude.{None};
 
 use crate::adapter::{Input, Output};
@@ -10,21 +10,9 @@ use std::io::{self, ErrorKind, Read, Write};
 use std::process::Abort;
 use std::test::Fail;
 
-const PIECES: [u32; 3] = [1, 7, 4096];
-
 const CREATED_A: (&str, &str) = (
     "201 Created",
     "{\"_index\":\"docs\",\"_id\":\"a\",\"result\":\"created\",\"_seq_no\":0}",
-);
-
-const CREATED_B: (&str, &str) = (
-    "201 Created",
-    "{\"_index\":\"docs\",\"_id\":\"b\",\"result\":\"created\",\"_seq_no\":1}",
-);
-
-const REFRESHED: (&str, &str) = (
-    "200 OK",
-    "{\"_shards\":{\"total\":1,\"successful\":1,\"failed\":0}}",
 );
 
 const NOT_BUILT: &str =
@@ -56,7 +44,7 @@ fn responses(alloc: Global, all: &[(&str, &str)]) -> Result<Vec<u8>, Fail> {
 
 // Where a link fails: at a read and at a write of these numbers, or nowhere at 0.
 #[derive(Drop)]
-struct Faults {
+pub(crate) struct Faults {
     read: u64,
     write: u64,
 }
@@ -70,7 +58,7 @@ fn words_of(alloc: Global, words: &[&str]) -> Result<Vec<Text>, NoMemory> {
 }
 
 // The status of a replay of the bytes, and what it wrote.
-fn replayed(
+pub(crate) fn replayed(
     alloc: Global,
     bytes: &[u8],
     piece: u32,
@@ -86,163 +74,7 @@ fn replayed(
     Ok((status, sink.bytes().to_vec(alloc)?))
 }
 
-const NO_FAULTS: Faults = Faults { read: 0, write: 0 };
-
-#[test]
-fn pages_of_a_point_in_time(rt: HostRuntime) -> Result<(), Fail> {
-    let alloc = rt.alloc();
-    let input = requests(
-        alloc,
-        &[
-            ("PUT /docs/_doc/a", "{\"n\":1}"),
-            ("PUT /docs/_doc/b", " {\"n\":2}\r\n"),
-            ("POST /docs/_refresh", ""),
-            ("POST /docs/_pit?keep_alive=1m", ""),
-            (
-                "POST /_search",
-                "{\"pit\":{\"id\":\"UAAAAAAAAAAB\"},\"size\":1}",
-            ),
-            (
-                "POST /_search",
-                "{\"pit\":{\"id\":\"UAAAAAAAAAAB\"},\"size\":1,\"search_after\":[0]}",
-            ),
-            (
-                "POST /_search",
-                "{\"pit\":{\"id\":\"UAAAAAAAAAAB\"},\"size\":1,\"search_after\":[1]}",
-            ),
-        ],
-    )?;
-    let output = responses(
-        alloc,
-        &[
-            CREATED_A,
-            CREATED_B,
-            REFRESHED,
-            ("200 OK", "{\"id\":\"UAAAAAAAAAAB\"}"),
-            (
-                "200 OK",
-                "{\"pit_id\":\"UAAAAAAAAAAB\",\"took\":0,\"timed_out\":false,\"_shards\":{\"total\":1,\"successful\":1,\"skipped\":0,\"failed\":0},\"hits\":{\"total\":{\"value\":2,\"relation\":\"eq\"},\"max_score\":null,\"hits\":[{\"_index\":\"docs\",\"_id\":\"a\",\"_score\":null,\"_source\":{\"n\":1},\"sort\":[0]}]}}",
-            ),
-            (
-                "200 OK",
-                "{\"pit_id\":\"UAAAAAAAAAAB\",\"took\":0,\"timed_out\":false,\"_shards\":{\"total\":1,\"successful\":1,\"skipped\":0,\"failed\":0},\"hits\":{\"total\":{\"value\":2,\"relation\":\"eq\"},\"max_score\":null,\"hits\":[{\"_index\":\"docs\",\"_id\":\"b\",\"_score\":null,\"_source\":{\"n\":2},\"sort\":[1]}]}}",
-            ),
-            (
-                "200 OK",
-                "{\"pit_id\":\"UAAAAAAAAAAB\",\"took\":0,\"timed_out\":false,\"_shards\":{\"total\":1,\"successful\":1,\"skipped\":0,\"failed\":0},\"hits\":{\"total\":{\"value\":2,\"relation\":\"eq\"},\"max_score\":null,\"hits\":[]}}",
-            ),
-        ],
-    )?;
-    for piece in PIECES {
-        let (status, written) = replayed(alloc, &input, piece, &NO_FAULTS)?;
-        assert!(rt; status == Status::Done);
-        assert!(rt;
-            written.as_slice() == output.as_slice(),
-            "in pieces of {piece}"
-        );
-    }
-    Ok(())
-}
-
-#[test]
-fn later_writes_do_not_show(rt: HostRuntime) -> Result<(), Fail> {
-    let alloc = rt.alloc();
-    let found =
-        "\"took\":0,\"timed_out\":false,\"_shards\":{\"total\":1,\"successful\":1,\"skipped\":0,\"failed\":0},\"hits\":{\"total\":{\"value\":";
-    let a =
-        "\"relation\":\"eq\"},\"max_score\":null,\"hits\":[{\"_index\":\"docs\",\"_id\":\"a\",\"_score\":null,\"_source\":{\"n\":1},\"sort\":[0]}";
-    let b =
-        "{\"_index\":\"docs\",\"_id\":\"b\",\"_score\":null,\"_source\":{\"n\":2},\"sort\":[1]}";
-    let c = "{\"_index\":\"docs\",\"_id\":\"c\",\"_score\":null,\"_source\":{},\"sort\":[2]}";
-    let input = requests(
-        alloc,
-        &[
-            ("PUT /docs/_doc/a", "{\"n\":1}"),
-            ("PUT /docs/_doc/b", "{\"n\":2}"),
-            ("POST /docs/_refresh", ""),
-            ("POST /docs/_pit?keep_alive=1m", ""),
-            ("PUT /docs/_doc/c", "{}"),
-            (
-                "POST /_search",
-                "{\"pit\":{\"id\":\"UAAAAAAAAAAB\"},\"size\":10}",
-            ),
-            ("POST /docs/_pit?keep_alive=1m", ""),
-            (
-                "POST /_search",
-                "{\"size\":10,\"pit\":{\"id\":\"UAAAAAAAAAAC\"}}",
-            ),
-            ("POST /docs/_refresh", ""),
-            ("POST /docs/_pit?keep_alive=1m", ""),
-            (
-                "POST /_search",
-                "{\"pit\":{\"id\":\"UAAAAAAAAAAD\"},\"size\":10}",
-            ),
-            (
-                "POST /_search",
-                "{\"pit\":{\"id\":\"UAAAAAAAAAAB\"},\"size\":10}",
-            ),
-        ],
-    )?;
-    let first = format!(in alloc; "{{\"pit_id\":\"UAAAAAAAAAAB\",{found}2,{a},{b}]}}}}")?;
-    let second = format!(in alloc; "{{\"pit_id\":\"UAAAAAAAAAAC\",{found}2,{a},{b}]}}}}")?;
-    let third = format!(in alloc; "{{\"pit_id\":\"UAAAAAAAAAAD\",{found}3,{a},{b},{c}]}}}}")?;
-    let output = responses(
-        alloc,
-        &[
-            CREATED_A,
-            CREATED_B,
-            REFRESHED,
-            ("200 OK", "{\"id\":\"UAAAAAAAAAAB\"}"),
-            (
-                "201 Created",
-                "{\"_index\":\"docs\",\"_id\":\"c\",\"result\":\"created\",\"_seq_no\":2}",
-            ),
-            ("200 OK", first.as_str()),
-            ("200 OK", "{\"id\":\"UAAAAAAAAAAC\"}"),
-            ("200 OK", second.as_str()),
-            REFRESHED,
-            ("200 OK", "{\"id\":\"UAAAAAAAAAAD\"}"),
-            ("200 OK", third.as_str()),
-            ("200 OK", first.as_str()),
-        ],
-    )?;
-    let (status, written) = replayed(alloc, &input, 4096, &NO_FAULTS)?;
-    assert!(rt; status == Status::Done);
-    assert!(rt; written.as_slice() == output.as_slice());
-    Ok(())
-}
-
-#[test]
-fn refusals(rt: HostRuntime) -> Result<(), Fail> {
-    let alloc = rt.alloc();
-    let input = requests(
-        alloc,
-        &[
-            ("PUT /docs/_doc/a", "[1]"),
-            ("PUT /docs/_doc/A", "{}"),
-            (
-                "POST /_search",
-                "{\"pit\":{\"id\":\"UAAAAAAAAAAB\"},\"size\":1}",
-            ),
-            ("PUT /docs/_doc/a", "{\"n\":1}"),
-        ],
-    )?;
-    let output = responses(
-        alloc,
-        &[
-            (
-                "400 Bad Request",
-                "{\"error\":{\"root_cause\":[{\"type\":\"parsing_exception\",\"reason\":\"bad body\"}],\"type\":\"parsing_exception\",\"reason\":\"bad body\"},\"status\":400}",
-            ),
-            ("501 Not Implemented", NOT_BUILT),
-            ("501 Not Implemented", NOT_BUILT),
-            CREATED_A,
-        ],
-    )?;
-    let (status, written) = replayed(alloc, &input, 7, &NO_FAULTS)?;
-    assert!(rt; status == Status::Done && written.as_slice() == output.as_slice());
-    Ok(())
-}
+pub(crate) const NO_FAULTS: Faults = Faults { read: 0, write: 0 };
 
 #[test]
 fn limits(rt: HostRuntime) -> Result<(), Fail> {

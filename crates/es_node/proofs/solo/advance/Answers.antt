@@ -1,5 +1,4 @@
 -- What a core's turn says of the history and its reply.
-use Rattle.es_node.specs.Solo.{Advances, AreOwn}
 use Rattle.es_node.proofs.solo.advance.Goals as goal
 
 pub returns-clause-advances : goal.returns-clause-advances

@@ -1,8 +1,6 @@
 -- A full history, or one entry more.
-use Rattle.std.proofs.Common.{sym, ap, subst, arith}
+use Rattle.std.proofs.Common.{subst, arith}
 use Rattle.list_machine.specs.declared.event.Reply.TheVariants.{Spent}
-use Rattle.list_machine.specs.declared.event.Limits.{Limits}
-use Rattle.list_machine.specs.Run.{PutsObject}
 use Rattle.list_machine.specs.Serving.{Asked, asked}
 use Rattle.es_node.specs.Solo.{Journal, IsRunning}
 use Rattle.es_node.proofs.Journals.{askable_creates, askable_object, spent, stepped, runs_on}

@@ -1,0 +1,14 @@
+//! What the bodies of requests say: a new index, a document, the items of a bulk.
+#![tactic(auto)]
+
+mod bulk;
+mod document;
+mod fault;
+mod index;
+mod value;
+
+pub use bulk::{BulkChange, BulkItem, next_bulk};
+pub use document::read_doc;
+pub use fault::BodyFault;
+pub use index::{IndexSpec, read_index};
+pub use value::read_data;

@@ -1,0 +1,349 @@
+//! The calls of `reply_json`.
+use crate::given::{bytes, doc_id, index, text};
+use es_types::{DocCause, DocFault, Items, LimitName, NoMemory, Value};
+use list_machine::{Answer, Counts, Hit, Reply, Wrote};
+use reply_json::{
+    BulkLine, BulkOutcome, Response, RestFault, RouteName, id_text, no_memory_text, print,
+    wrote_status,
+};
+use std::alloc::Global;
+use std::process::Abort;
+use std::test::Fail;
+
+// The end of a first line.
+fn line_of(status: u16) -> &'static str {
+    match status {
+        200 => "200 OK",
+        201 => "201 Created",
+        400 => "400 Bad Request",
+        404 => "404 Not Found",
+        429 => "429 Too Many Requests",
+        501 => "501 Not Implemented",
+        503 => "503 Service Unavailable",
+        _ => "",
+    }
+}
+
+// The response with that status and that body.
+fn whole(alloc: Global, status: u16, body: &str) -> Result<String, NoMemory> {
+    let line = line_of(status);
+    let len = body.len();
+    format!(in alloc;
+        "HTTP/1.1 {line}\r\ncontent-type: application/json\r\ncontent-length: {len}\r\n\r\n{body}"
+    )
+}
+
+fn prints(
+    rt: &impl Abort,
+    alloc: Global,
+    response: &Response,
+    status: u16,
+    body: &str,
+) -> Result<(), Fail> {
+    let want = whole(alloc, status, body)?;
+    let found = print(alloc, response, false)?;
+    assert_eq!(rt; found.as_slice(), want.as_bytes(), "{body}");
+    Ok(())
+}
+
+fn reply(route: RouteName, reply: Reply, status: u16) -> Response {
+    Response::Json {
+        status,
+        reply,
+        route,
+    }
+}
+
+#[test]
+fn an_opening(rt: HostRuntime) -> Result<(), Fail> {
+    let alloc = rt.alloc();
+    let response = reply(RouteName::OpenPit, Reply::Opened { number: 1 }, 200);
+    let kept = print(alloc, &response, false)?;
+    let want =
+        "HTTP/1.1 200 OK\r\ncontent-type: application/json\r\ncontent-length: 21\r\n\r\n{\"id\":\"UAAAAAAAAAAB\"}";
+    assert_eq!(rt; kept.as_slice(), want.as_bytes());
+    let last = print(alloc, &response, true)?;
+    let want =
+        "HTTP/1.1 200 OK\r\ncontent-type: application/json\r\ncontent-length: 21\r\nconnection: close\r\n\r\n{\"id\":\"UAAAAAAAAAAB\"}";
+    assert_eq!(rt; last.as_slice(), want.as_bytes());
+    Ok(())
+}
+
+#[test]
+fn ids(rt: HostRuntime) -> Result<(), Fail> {
+    let alloc = rt.alloc();
+    for (number, want) in [
+        (1, "UAAAAAAAAAAB"),
+        (3, "UAAAAAAAAAAD"),
+        (9, "UAAAAAAAAAAJ"),
+    ] {
+        let id = id_text(alloc, number)?;
+        assert_eq!(rt; id.as_str(), want);
+    }
+    Ok(())
+}
+
+#[test]
+fn a_new_index(rt: HostRuntime) -> Result<(), Fail> {
+    let alloc = rt.alloc();
+    let route = RouteName::Create {
+        index: index(alloc, "t")?,
+    };
+    let body = "{\"acknowledged\":true,\"shards_acknowledged\":true,\"index\":\"t\"}";
+    prints(&rt, alloc, &reply(route, Reply::Done, 200), 200, body)
+}
+
+#[test]
+fn a_refresh(rt: HostRuntime) -> Result<(), Fail> {
+    let alloc = rt.alloc();
+    let sealed = Reply::Sealed(Items::of(vec![in alloc; 0, 7]?));
+    let body = "{\"_shards\":{\"total\":2,\"successful\":2,\"failed\":0}}";
+    let response = reply(RouteName::Refresh, sealed, 200);
+    prints(&rt, alloc, &response, 200, body)?;
+    // A reply that the route does not give has no body.
+    let response = reply(RouteName::Refresh, Reply::Done, 200);
+    prints(&rt, alloc, &response, 200, "")
+}
+
+// What is said of a document where this was done with it.
+fn says(
+    rt: &impl Abort,
+    alloc: Global,
+    remove: bool,
+    did: Wrote,
+    status: u16,
+    word: &str,
+) -> Result<(), Fail> {
+    let index = index(alloc, "t")?;
+    let id = doc_id(alloc, "a")?;
+    let route = if remove {
+        RouteName::Remove { index, id }
+    } else {
+        RouteName::Put { index, id }
+    };
+    let wrote = Reply::Wrote {
+        result: did,
+        seq: 8,
+    };
+    let response = reply(route, wrote, wrote_status(did));
+    let body = format!(in alloc;
+        "{{\"_index\":\"t\",\"_id\":\"a\",\"result\":\"{word}\",\"_seq_no\":7}}"
+    )?;
+    prints(rt, alloc, &response, status, body.as_str())
+}
+
+#[test]
+fn writes(rt: HostRuntime) -> Result<(), Fail> {
+    let alloc = rt.alloc();
+    says(&rt, alloc, false, Wrote::Created, 201, "created")?;
+    says(&rt, alloc, false, Wrote::Updated, 200, "updated")?;
+    says(&rt, alloc, true, Wrote::Deleted, 200, "deleted")?;
+    says(&rt, alloc, true, Wrote::NotFound, 404, "not_found")
+}
+
+fn hit(alloc: Global, id: &str, source: &[u8], shown: i64) -> Result<Hit, Fail> {
+    Ok(Hit {
+        index: index(alloc, "i")?,
+        id: doc_id(alloc, id)?,
+        source: bytes(alloc, source)?,
+        shown: Items::of(vec![in alloc; Value::Long(shown)]?),
+    })
+}
+
+fn two_hits(alloc: Global) -> Result<Answer, Fail> {
+    let first = hit(alloc, "a", b"{\"n\":1}", 0)?;
+    let second = hit(alloc, "b", b"{\"n\":2}", -1)?;
+    Ok(Answer {
+        counts: Counts {
+            total: 2,
+            successful: 2,
+            skipped: 0,
+            failed: 0,
+        },
+        phases: 1,
+        total: 2,
+        hits: Items::of(vec![in alloc; first, second]?),
+    })
+}
+
+#[test]
+fn a_page(rt: HostRuntime) -> Result<(), Fail> {
+    let alloc = rt.alloc();
+    let found = Reply::Found(two_hits(alloc)?);
+    let response = reply(RouteName::Search { pit: 1 }, found, 200);
+    let body =
+        "{\"pit_id\":\"UAAAAAAAAAAB\",\"took\":0,\"timed_out\":false,\"_shards\":{\"total\":2,\"successful\":2,\"skipped\":0,\"failed\":0},\"hits\":{\"total\":{\"value\":2,\"relation\":\"eq\"},\"max_score\":null,\"hits\":[{\"_index\":\"i\",\"_id\":\"a\",\"_score\":null,\"_source\":{\"n\":1},\"sort\":[0]},{\"_index\":\"i\",\"_id\":\"b\",\"_score\":null,\"_source\":{\"n\":2},\"sort\":[-1]}]}}";
+    prints(&rt, alloc, &response, 200, body)
+}
+
+fn wrote(alloc: Global, remove: bool, id: &str, did: Wrote, seq: u64) -> Result<BulkLine, Fail> {
+    Ok(BulkLine {
+        remove,
+        index: text(alloc, "t")?,
+        id: text(alloc, id)?,
+        outcome: BulkOutcome::Wrote { result: did, seq },
+    })
+}
+
+fn refused(alloc: Global) -> Result<BulkLine, Fail> {
+    Ok(BulkLine {
+        remove: false,
+        index: text(alloc, "t")?,
+        id: text(alloc, "b")?,
+        outcome: BulkOutcome::Fault(RestFault::BadDoc(DocFault {
+            field: 0,
+            cause: DocCause::Kind,
+        })),
+    })
+}
+
+#[test]
+fn a_bulk_of_none(rt: HostRuntime) -> Result<(), Fail> {
+    let alloc = rt.alloc();
+    let response = Response::Bulk(Items::of(Vec::new(alloc)));
+    let body = "{\"took\":0,\"errors\":false,\"items\":[]}";
+    prints(&rt, alloc, &response, 200, body)
+}
+
+#[test]
+fn a_bulk_with_a_refused_item(rt: HostRuntime) -> Result<(), Fail> {
+    let alloc = rt.alloc();
+    let first = wrote(alloc, false, "a", Wrote::Created, 1)?;
+    let second = refused(alloc)?;
+    let response = Response::Bulk(Items::of(vec![in alloc; first, second]?));
+    let body =
+        "{\"took\":0,\"errors\":true,\"items\":[{\"index\":{\"_index\":\"t\",\"_id\":\"a\",\"result\":\"created\",\"_seq_no\":0,\"status\":201}},{\"index\":{\"_index\":\"t\",\"_id\":\"b\",\"status\":400,\"error\":{\"type\":\"document_parsing_exception\",\"reason\":\"field [0] has a value of another kind\"}}}]}";
+    prints(&rt, alloc, &response, 200, body)
+}
+
+#[test]
+fn a_bulk_carried_out(rt: HostRuntime) -> Result<(), Fail> {
+    let alloc = rt.alloc();
+    let first = wrote(alloc, true, "a", Wrote::Deleted, 3)?;
+    let second = wrote(alloc, true, "\"", Wrote::NotFound, 4)?;
+    let response = Response::Bulk(Items::of(vec![in alloc; first, second]?));
+    let body =
+        "{\"took\":0,\"errors\":false,\"items\":[{\"delete\":{\"_index\":\"t\",\"_id\":\"a\",\"result\":\"deleted\",\"_seq_no\":2,\"status\":200}},{\"delete\":{\"_index\":\"t\",\"_id\":\"\\\"\",\"result\":\"not_found\",\"_seq_no\":3,\"status\":404}}]}";
+    prints(&rt, alloc, &response, 200, body)
+}
+
+// A request that is refused for this is answered with that status, type and reason, as JSON writes it.
+fn refuses(
+    rt: &impl Abort,
+    alloc: Global,
+    fault: RestFault,
+    status: u16,
+    kind: &str,
+    reason: &str,
+) -> Result<(), Fail> {
+    let cause = format!(in alloc; "\"type\":\"{kind}\",\"reason\":\"{reason}\"")?;
+    let body = format!(in alloc;
+        "{{\"error\":{{\"root_cause\":[{{{cause}}}],{cause}}},\"status\":{status}}}"
+    )?;
+    prints(rt, alloc, &Response::Fault(fault), status, body.as_str())
+}
+
+#[test]
+fn a_refusal_that_ends_its_connection(rt: HostRuntime) -> Result<(), Fail> {
+    let alloc = rt.alloc();
+    let response = Response::Fault(RestFault::TooMany(500));
+    let found = print(alloc, &response, true)?;
+    let want =
+        "HTTP/1.1 429 Too Many Requests\r\ncontent-type: application/json\r\ncontent-length: 161\r\nconnection: close\r\n\r\n{\"error\":{\"root_cause\":[{\"type\":\"too_many_contexts_exception\",\"reason\":\"limit [500]\"}],\"type\":\"too_many_contexts_exception\",\"reason\":\"limit [500]\"},\"status\":429}";
+    assert_eq!(rt; found.as_slice(), want.as_bytes());
+    Ok(())
+}
+
+#[test]
+fn refused_for_itself(rt: HostRuntime) -> Result<(), Fail> {
+    let alloc = rt.alloc();
+    let kind = "illegal_argument_exception";
+    let fault = RestFault::BadParam(text(alloc, "\"q")?);
+    refuses(&rt, alloc, fault, 400, kind, "bad parameter [\\\"q]")?;
+    let fault = RestFault::Limit(LimitName::Index);
+    refuses(&rt, alloc, fault, 400, kind, "limit [index]")?;
+    let fault = RestFault::Limit(LimitName::Id);
+    refuses(&rt, alloc, fault, 400, kind, "limit [id]")?;
+    let fault = RestFault::Limit(LimitName::Shards);
+    refuses(&rt, alloc, fault, 400, kind, "limit [shards]")?;
+    let fault = RestFault::Limit(LimitName::Fields);
+    refuses(&rt, alloc, fault, 400, kind, "limit [fields]")?;
+    refuses(
+        &rt,
+        alloc,
+        RestFault::BadBody,
+        400,
+        "parsing_exception",
+        "bad body",
+    )
+}
+
+#[test]
+fn refused_for_its_document(rt: HostRuntime) -> Result<(), Fail> {
+    let alloc = rt.alloc();
+    let kind = "document_parsing_exception";
+    let fault = RestFault::BadDoc(DocFault {
+        field: 12,
+        cause: DocCause::Kind,
+    });
+    refuses(
+        &rt,
+        alloc,
+        fault,
+        400,
+        kind,
+        "field [12] has a value of another kind",
+    )?;
+    let fault = RestFault::BadDoc(DocFault {
+        field: 0,
+        cause: DocCause::TooLong,
+    });
+    refuses(
+        &rt,
+        alloc,
+        fault,
+        400,
+        kind,
+        "field [0] has a value that is too long",
+    )
+}
+
+#[test]
+fn refused_for_what_is_there(rt: HostRuntime) -> Result<(), Fail> {
+    let alloc = rt.alloc();
+    let fault = RestFault::NoIndex(text(alloc, "t")?);
+    let kind = "index_not_found_exception";
+    refuses(&rt, alloc, fault, 404, kind, "no such index [t]")?;
+    let fault = RestFault::Exists(text(alloc, "t")?);
+    let kind = "resource_already_exists_exception";
+    refuses(&rt, alloc, fault, 400, kind, "index [t] exists")?;
+    let fault = RestFault::NoContext(text(alloc, "x")?);
+    let kind = "search_context_missing_exception";
+    refuses(&rt, alloc, fault, 404, kind, "no context [x]")
+}
+
+#[test]
+fn refused_for_want_of_room(rt: HostRuntime) -> Result<(), Fail> {
+    let alloc = rt.alloc();
+    let kind = "history_full_exception";
+    refuses(&rt, alloc, RestFault::Spent, 429, kind, "history is full")?;
+    let kind = "too_many_contexts_exception";
+    refuses(&rt, alloc, RestFault::TooMany(2), 429, kind, "limit [2]")?;
+    let kind = "shard_full_exception";
+    refuses(&rt, alloc, RestFault::ShardFull, 429, kind, "shard is full")?;
+    let kind = "no_memory_exception";
+    refuses(&rt, alloc, RestFault::NoMemory, 503, kind, "no memory")?;
+    let kind = "not_built_exception";
+    refuses(&rt, alloc, RestFault::NotBuilt, 501, kind, "not built")
+}
+
+#[test]
+fn without_memory(rt: HostRuntime) -> Result<(), Fail> {
+    let alloc = rt.alloc();
+    let response = Response::Fault(RestFault::NoMemory);
+    let kept = print(alloc, &response, false)?;
+    assert_eq!(rt; no_memory_text(false), kept.as_slice());
+    let last = print(alloc, &response, true)?;
+    assert_eq!(rt; no_memory_text(true), last.as_slice());
+    Ok(())
+}

@@ -1,5 +1,0 @@
-use Rattle.es_node.proofs.Printed.{hits_step}
-use Rattle.es_node.proofs.found.push_hits.Goals as goal
-
-pub loop-i-preserved : goal.loop-i-preserved
-loop-i-preserved c = hits_step c.args.hits.now c.loop-i.i _ _ _ _ c.loop-i-test.true c.index-hits-i.is c.loop-i.invariant c.in_ok-push_hit.ensures

@@ -1,6 +1,0 @@
-use Rattle.std.proofs.Common.{false}
-use Rattle.es_node.proofs.Printed.{no_memory_said}
-use Rattle.es_node.proofs.reply.no_memory_kept.Goals as goal
-
-pub returns : goal.returns
-returns c = no_memory_said false

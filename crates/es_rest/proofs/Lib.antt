@@ -1,0 +1,15 @@
+pub mod Json
+pub mod Scripts
+pub mod Refreshes
+pub mod Bulks
+pub mod Led
+pub mod BulkTalks
+pub mod Parts
+pub mod Talks
+pub mod Turns
+pub mod Progress
+pub mod Whole
+pub mod Objects
+pub mod Queries
+pub mod Asks
+pub mod Limits

@@ -1,0 +1,435 @@
+-- How far a connection has come, and that it comes to the headline.
+use Rattle.std.proofs.Common.{◌≡◌, refl, sym, ap, subst, ◌∙◌, inl, inr, ⊎_elim, ℕ, ◌+◌, ◌<◌, ◌≤◌, max, List, [], ◌∷◌, ◌++◌, length, take, Option, Some, None, Result, Ok, Err, arith, append_assoc, length-append, take_all}
+use Rattle.std.specs.Prelude.{All}
+use Rattle.std.proofs.lemmas.List.{append-nil}
+use Rattle.std.proofs.lemmas.List.Elements.{All-nil, All-cons, All-append, All-head, All-tail, All-weaker}
+use Rattle.std.proofs.Math.Seq.{take-append-add, take-nil}
+use Rattle.http_wire.specs.declared.request.Request.{Request}
+use Rattle.http_wire.specs.declared.wire.WireEnd.{WireEnd}
+use Rattle.http_wire.specs.declared.wire.WireEnd.TheVariants as wire
+use Rattle.http_wire.specs.Requests.{Begins, Spells, IsUnfinished, connection_limit}
+use Rattle.http_wire.specs.Stream.{Held, Gave, HasEnded, NextOf, Wrote, WroteSome, stream_of}
+use Rattle.list_machine.specs.declared.event.Limits.{Limits}
+use Rattle.list_machine.specs.Run.{History}
+use Rattle.list_machine.specs.Pages.{Enumerates}
+use Rattle.es_rest.specs.declared.connection.ConnEnd.{ConnEnd}
+use Rattle.es_rest.specs.declared.connection.ConnEnd.TheVariants as end
+use Rattle.es_rest.specs.declared.connection.Session.{Session}
+use Rattle.reply_json.specs.Replies.{text}
+use Rattle.es_rest.specs.Talk.{Exchange, Served, Serves, newest_after}
+use Rattle.es_rest.specs.Headline.{requests_of, texts_of, EndsWith, Cuts, TookAll, AtReadFault, ReadsFrom, last_words, IsCut, WroteWords, WritesTo, NeverFalls, AtLast, AreMoments, Headline}
+use Rattle.es_rest.proofs.Turns.{exchanged_as, wrote_none}
+use Rattle.es_rest.specs.Turns.{Aims, Closed, Exchanged, LastGoesOn}
+
+-- the newest point in time that these responses told of
+abbrev pub newest_of : ℕ → List Exchange → ℕ
+newest_of newest [] = newest
+newest_of newest (x ∷ served) = newest_of (newest_after newest x.response) served
+
+-- the bytes that were taken are these requests and then what is held, whatever comes behind them
+pub record ReadOn (bytes : List ℕ) (left : Option (List ℕ)) (held : Held) (requests : List Request) : Type 0 where
+  pub taken : List ℕ
+  pub after : List ℕ
+  pub from : bytes ≡ taken ++ after
+  pub left_is : left ≡ Some after
+  pub spells : (more : List ℕ) → Spells (taken ++ more) requests (held.bytes ++ more)
+  pub room : held.room + length taken ≡ connection_limit
+
+abbrev pub ReadSoFar : Option (List ℕ) → Option (List ℕ) → Held → List Request → Type 0
+ReadSoFar None left held requests = Unit {0}
+ReadSoFar (Some bytes) left held requests = ReadOn bytes left held requests
+
+abbrev pub WroteSoFar : Option (List ℕ) → Option (List ℕ) → List Exchange → Type 0
+WroteSoFar None after served = Unit {0}
+WroteSoFar (Some written) after served = after ≡ Some (written ++ texts_of served)
+
+abbrev pub LastSoFar : Option ℕ → Option ℕ → ℕ → Type 0
+LastSoFar None after moment = Unit {0}
+LastSoFar (Some last) after moment = (after ≡ Some last) × (moment ≤ last)
+
+-- all but what was written
+pub record Moved (limits : Limits) (seat : ℕ) (old new : History) (left after : Option (List ℕ)) (last now : Option ℕ) (greatest : ℕ) (session : Session) (held : Held) (served : List Exchange) : Type 0 where
+  pub serves : Serves limits seat 0 old new served
+  pub newest : session.newest ≡ newest_of 0 served
+  pub read : ReadSoFar left after held (requests_of served)
+  pub never_fall : NeverFalls 0 served
+  pub below : All (λ (x : Exchange). x.moment ≤ session.moment) served
+  pub bounded : session.moment ≤ greatest
+  pub told : AtLast last served
+  pub goes_on : LastSoFar last now session.moment
+
+-- so far
+pub record Progress (limits : Limits) (seat : ℕ) (old new : History) (left after written now : Option (List ℕ)) (last told : Option ℕ) (greatest : ℕ) (session : Session) (held : Held) : Type 0 where
+  pub served : List Exchange
+  pub moved : Moved limits seat old new left after last told greatest session held served
+  pub wrote : WroteSoFar written now served
+
+-- ---- one request more
+
+spells_more : (stream : List ℕ) (requests : List Request) (rest more : List ℕ) (request : Request) → Spells stream requests rest → Begins rest request more → Spells stream (requests ++ request ∷ []) more
+spells_more stream [] rest more request s b = (more, subst (λ (l : List ℕ). Begins l request more) (sym s) b, refl)
+spells_more stream (r ∷ requests) rest more request s b = (s.0, s.1, spells_more s.0 requests rest more request s.2 b)
+
+serves_more : (limits : Limits) (seat newest : ℕ) (old mid new : History) (served : List Exchange) (x : Exchange)
+    → Serves limits seat newest old mid served → Served limits seat (newest_of newest served) mid new x → Serves limits seat newest old new (served ++ x ∷ [])
+serves_more limits seat newest old mid new [] x s h = (new, subst (λ (l : History). Served limits seat newest l new x) s h, refl)
+serves_more limits seat newest old mid new (y ∷ served) x s h = (s.0, s.1, serves_more limits seat (newest_after newest y.response) s.0 mid new served x s.2 h)
+
+newest_more : (newest : ℕ) (served : List Exchange) (x : Exchange) → newest_of newest (served ++ x ∷ []) ≡ newest_after (newest_of newest served) x.response
+newest_more newest [] x = refl
+newest_more newest (y ∷ served) x = newest_more (newest_after newest y.response) served x
+
+falls_more : (from : ℕ) (served : List Exchange) (x : Exchange) → NeverFalls from served → All (λ (y : Exchange). y.moment ≤ x.moment) served → from ≤ x.moment → NeverFalls from (served ++ x ∷ [])
+falls_more from [] x n below h = (h, tt)
+falls_more from (y ∷ served) x n below h =
+    (n.0, falls_more y.moment served x n.1 (All-tail (λ (z : Exchange). z.moment ≤ x.moment) y served below) (All-head (λ (z : Exchange). z.moment ≤ x.moment) y served below))
+
+last_more : (last now after : Option ℕ) (old new : ℕ) (served : List Exchange) (x : Exchange) → x.moment ≡ new → AtLast last served → LastSoFar last now old → LastGoesOn now after old new
+    → AtLast last (served ++ x ∷ []) × LastSoFar last after new
+last_more None now after old new served x is at so goes = (tt, tt)
+last_more (Some last) now after old new served x is at so goes =
+    let P : Option ℕ → Type 0 = λ o. LastGoesOn o after old new in
+    let g : (after ≡ Some last) × (new ≡ max old last) = subst P so.0 goes in
+    let same : new ≡ last = omega (arith, g.1, so.1) in
+    (All-append (λ (y : Exchange). y.moment ≡ last) served (x ∷ []) at (All-cons (λ (y : Exchange). y.moment ≡ last) x [] (is ∙ same) (All-nil (λ (y : Exchange). y.moment ≡ last))), (g.0, omega (arith, same)))
+
+requests_more : (served : List Exchange) (x : Exchange) → requests_of (served ++ x ∷ []) ≡ requests_of served ++ x.request ∷ []
+requests_more [] x = refl
+requests_more (y ∷ served) x = ap (λ (l : List Request). y.request ∷ l) (requests_more served x)
+
+texts_more : (served : List Exchange) (x : Exchange) → texts_of (served ++ x ∷ []) ≡ texts_of served ++ text x.response x.request.last
+texts_more [] x = append-nil (text x.response x.request.last)
+texts_more (y ∷ served) x = ap (λ (l : List ℕ). text y.response y.request.last ++ l) (texts_more served x) ∙ sym (append_assoc (text y.response y.request.last) (texts_of served) (text x.response x.request.last))
+
+-- the bytes of a request were taken
+read_more : (left now after : Option (List ℕ)) (old new : Held) (requests : List Request) (request : Request)
+    → ReadSoFar left now old requests → NextOf old new now after (Ok (Some request)) → ReadSoFar left after new (requests ++ request ∷ [])
+read_more None now after old new requests request so next = tt
+read_more (Some bytes) now after old new requests request so next =
+    let P : Option (List ℕ) → Type 0 = λ o. NextOf old new o after (Ok (Some request)) in
+    let gave : Gave old new so.after after request = subst P so.left_is next in
+    record {
+      taken = so.taken ++ gave.taken;
+      after = gave.after;
+      from = so.from ∙ (ap (λ (l : List ℕ). so.taken ++ l) gave.took.from ∙ sym (append_assoc so.taken gave.taken gave.after));
+      left_is = gave.left_is;
+      spells = λ more.
+          subst (λ (l : List ℕ). Spells l (requests ++ request ∷ []) (new.bytes ++ more)) (sym (append_assoc so.taken gave.taken more))
+          (spells_more (so.taken ++ (gave.taken ++ more)) requests (old.bytes ++ (gave.taken ++ more)) (new.bytes ++ more) request (so.spells (gave.taken ++ more))
+          (subst (λ (l : List ℕ). Begins l request (new.bytes ++ more)) (append_assoc old.bytes gave.taken more) (gave.begins more)));
+      room = omega (arith, so.room, gave.room, length-append so.taken gave.taken);
+    }
+
+-- what a request and its response make of all but the bytes that were written
+moved_more : (limits : Limits) (seat : ℕ) (first front after : History) (left now then : Option (List ℕ)) (last told tells : Option ℕ) (greatest great : ℕ) (old new : Session) (held holds : Held) (served : List Exchange) (x : Exchange)
+    → Moved limits seat first front left now last told greatest old held served
+    → ReadSoFar left then holds (requests_of served ++ x.request ∷ [])
+    → Served limits seat old.newest front after x → new.newest ≡ newest_after old.newest x.response → x.moment ≡ new.moment
+    → old.moment ≤ new.moment → new.moment ≤ max old.moment great → greatest ≤ great → LastGoesOn told tells old.moment new.moment
+    → Moved limits seat first after left then last tells great new holds (served ++ x ∷ [])
+moved_more limits seat first front after left now then last told tells greatest great old new held holds served x m read serve newest moment later bounded greater goes =
+    let lasts = last_more last told tells old.moment new.moment served x moment m.told m.goes_on goes in
+    record {
+      serves = serves_more limits seat 0 first front after served x m.serves (subst (λ (n : ℕ). Served limits seat n front after x) m.newest serve);
+      newest = newest ∙ (ap (λ (n : ℕ). newest_after n x.response) m.newest ∙ sym (newest_more 0 served x));
+      read = subst (λ (rs : List Request). ReadSoFar left then holds rs) (sym (requests_more served x)) read;
+      never_fall = falls_more 0 served x m.never_fall
+          (All-weaker (λ (y : Exchange). y.moment ≤ old.moment) (λ (y : Exchange). y.moment ≤ x.moment) (λ y h. omega (arith, h, later, moment)) served m.below) (omega arith);
+      below = All-append (λ (y : Exchange). y.moment ≤ new.moment) served (x ∷ [])
+          (All-weaker (λ (y : Exchange). y.moment ≤ old.moment) (λ (y : Exchange). y.moment ≤ new.moment) (λ y h. omega (arith, h, later)) served m.below)
+          (All-cons (λ (y : Exchange). y.moment ≤ new.moment) x [] (omega (arith, moment)) (All-nil (λ (y : Exchange). y.moment ≤ new.moment)));
+      bounded = omega (arith, bounded, m.bounded, greater);
+      told = lasts.0;
+      goes_on = lasts.1;
+    }
+
+-- ---- the ends
+
+-- the stream of the connection is what was taken and what still may be
+cut_by : (bytes : List ℕ) (left : Option (List ℕ)) (held : Held) (requests : List Request) (so : ReadOn bytes left held requests) (result : ConnEnd) → EndsWith bytes (stream_of held so.after) result → Cuts bytes requests result
+cut_by bytes left held requests so result ends =
+    let limit : connection_limit ≡ length so.taken + held.room = omega (arith, so.room) in
+    let stream : take connection_limit bytes ≡ so.taken ++ take held.room so.after =
+    ap (λ (n : ℕ). take n bytes) limit ∙ (ap (take (length so.taken + held.room)) so.from ∙ take-append-add so.taken so.after held.room) in
+    record {
+      rest = stream_of held so.after;
+      spells = subst (λ (l : List ℕ). Spells l requests (stream_of held so.after)) (sym stream) (so.spells (take held.room so.after));
+      ends = ends;
+    }
+
+long : (bytes : List ℕ) (left : Option (List ℕ)) (held : Held) (requests : List Request) (so : ReadOn bytes left held requests) → length bytes ≡ length so.taken + length so.after
+long bytes left held requests so = ap length so.from ∙ length-append so.taken so.after
+
+-- what an end of the wire says of the bytes
+ends_by : (bytes : List ℕ) (left after : Option (List ℕ)) (held : Held) (requests : List Request) (so : ReadOn bytes left held requests) (wired : WireEnd) (aim : ConnEnd)
+    → HasEnded held so.after after wired → Aims wired aim → EndsWith bytes (stream_of held so.after) aim
+ends_by bytes left after held requests so wire.Truncated end.Truncated h aims =
+    let whole : take held.room so.after ≡ so.after = take_all held.room so.after h.0 in (
+      omega (arith, long bytes left held requests so, so.room, h.0),
+      (λ none. h.1 (ap (λ (l : List ℕ). held.bytes ++ l) (sym whole) ∙ none)),
+      subst (λ (l : List ℕ). IsUnfinished (held.bytes ++ l)) (sym whole) h.2,
+    )
+ends_by bytes left after held requests so wire.NotBuilt end.Refused h aims = h
+ends_by bytes left after held requests so wire.NotBuilt end.NoMemory h aims = tt
+ends_by bytes left after held requests so wire.TooMuch end.TooMuch h aims = (omega (arith, long bytes left held requests so, so.room, h.0), h.1)
+ends_by bytes left after held requests so wire.ReadFault end.ReadFault h aims = tt
+ends_by bytes left after held requests so wire.NoMemory end.NoMemory h aims = tt
+ends_by bytes left after held requests so wired aim h aims = absurd aims
+
+-- at a read fault no whole request was left unserved
+took_all : (bytes : List ℕ) (left after : Option (List ℕ)) (held : Held) (requests : List Request) (so : ReadOn bytes left held requests)
+    → HasEnded held so.after after wire.ReadFault → TookAll bytes after requests
+took_all bytes left after held requests so h =
+    record {
+      taken = so.taken ++ h.0;
+      after = h.1;
+      rest = held.bytes ++ h.0;
+      from = so.from ∙ (ap (λ (l : List ℕ). so.taken ++ l) h.2.from ∙ sym (append_assoc so.taken h.0 h.1));
+      left_is = h.3;
+      spells = so.spells h.0;
+      no_more = h.4;
+    }
+
+at_fault : (bytes : List ℕ) (left after : Option (List ℕ)) (held : Held) (requests : List Request) (so : ReadOn bytes left held requests) (wired : WireEnd) (aim : ConnEnd)
+    → HasEnded held so.after after wired → Aims wired aim → AtReadFault bytes after requests aim
+at_fault bytes left after held requests so wire.ReadFault end.ReadFault h aims = took_all bytes left after held requests so h
+at_fault bytes left after held requests so wire.Truncated end.Truncated h aims = tt
+at_fault bytes left after held requests so wire.NotBuilt end.Refused h aims = tt
+at_fault bytes left after held requests so wire.NotBuilt end.NoMemory h aims = tt
+at_fault bytes left after held requests so wire.TooMuch end.TooMuch h aims = tt
+at_fault bytes left after held requests so wire.NoMemory end.NoMemory h aims = tt
+at_fault bytes left after held requests so wired aim h aims = absurd aims
+
+-- what the link told of the bytes, where the wire ended
+reads_end : (left now after : Option (List ℕ)) (held new : Held) (requests : List Request) (wired : WireEnd) (aim : ConnEnd)
+    → ReadSoFar left now held requests → NextOf held new now after (Err wired) → Aims wired aim → ReadsFrom left after requests aim
+reads_end None now after held new requests wired aim so next aims = tt
+reads_end (Some bytes) now after held new requests wired aim so next aims =
+    let P : Option (List ℕ) → Type 0 = λ o. NextOf held new o after (Err wired) in
+    let h : HasEnded held so.after after wired = subst P so.left_is next in
+    (cut_by bytes now held requests so aim (ends_by bytes now after held requests so wired aim h aims), at_fault bytes now after held requests so wired aim h aims)
+
+-- and where a write failed
+reads_fault : (left now after : Option (List ℕ)) (held : Held) (requests : List Request) → ReadSoFar left now held requests → ReadsFrom left after requests end.WriteFault
+reads_fault None now after held requests so = tt
+reads_fault (Some bytes) now after held requests so = (cut_by bytes now held requests so end.WriteFault tt, tt)
+
+-- and where the input ended between two requests
+reads_done : (left now after : Option (List ℕ)) (held new : Held) (requests : List Request) → ReadSoFar left now held requests → NextOf held new now after (Ok None) → ReadsFrom left after requests end.Done
+reads_done None now after held new requests so next = tt
+reads_done (Some bytes) now after held new requests so next =
+    let P : Option (List ℕ) → Type 0 = λ o. NextOf held new o after (Ok None) in
+    let h : (held.bytes ≡ []) × (so.after ≡ []) = subst P so.left_is next in
+    let nothing : stream_of held so.after ≡ [] = ap (λ (l : List ℕ). l ++ take held.room so.after) h.0 ∙ (ap (take held.room) h.1 ∙ take-nil held.room) in
+    (cut_by bytes now held requests so end.Done (omega (arith, long bytes now held requests so, so.room, ap length h.1), nothing), tt)
+
+-- ---- what was written
+
+never_a_fault : (wired : WireEnd) → Aims wired end.WriteFault → ⊥
+never_a_fault wire.Truncated h = h
+never_a_fault wire.NotBuilt h = h
+never_a_fault wire.ReadFault h = h
+never_a_fault wire.TooMuch h = h
+never_a_fault wire.NoMemory h = h
+
+words_at : (left rest : Option (List ℕ)) (written : List ℕ) (after : Option (List ℕ)) (served : List Exchange) (aim : ConnEnd) → (aim ≡ end.WriteFault → ⊥) → after ≡ Some (written ++ (texts_of served ++ last_words aim)) → WroteWords left rest written after served aim
+words_at left rest written after served end.Done fault h = h
+words_at left rest written after served end.Refused fault h = h
+words_at left rest written after served end.ReadFault fault h = h
+words_at left rest written after served end.WriteFault fault h = absurd (fault refl)
+words_at left rest written after served end.NoMemory fault h = h
+words_at left rest written after served end.Truncated fault h = h
+words_at left rest written after served end.TooMuch fault h = h
+
+writes_end : (left rest first now after : Option (List ℕ)) (served : List Exchange) (aim : ConnEnd) → (aim ≡ end.WriteFault → ⊥) → WroteSoFar first now served → Wrote now after (last_words aim) → WritesTo left rest first after served aim
+writes_end left rest None now after served aim fault so wrote = tt
+writes_end left rest (Some written) now after served aim fault so wrote =
+    let P : Option (List ℕ) → Type 0 = λ o. Wrote o after (last_words aim) in
+    words_at left rest written after served aim fault (subst P so wrote ∙ ap Some (append_assoc written (texts_of served) (last_words aim)))
+
+-- words behind the texts were cut
+cut_words : (written : List ℕ) (now after : Option (List ℕ)) (texts words : List ℕ) → now ≡ Some (written ++ texts) → WroteSome now after words → IsCut written after texts words
+cut_words written now after texts words so wrote =
+    let P : Option (List ℕ) → Type 0 = λ o. WroteSome o after words in
+    let some : (count : ℕ) × (count < length words) × (after ≡ Some ((written ++ texts) ++ take count words)) = subst P so wrote in
+    record { count = some.0; short = some.1; is = some.2 ∙ ap Some (append_assoc written texts (take some.0 words)) }
+
+-- the last words failed
+writes_fault : (left rest first now after : Option (List ℕ)) (served : List Exchange) (aim : ConnEnd) → ReadsFrom left rest (requests_of served) aim → WroteSoFar first now served → WroteSome now after (last_words aim) → WritesTo left rest first after served end.WriteFault
+writes_fault left rest None now after served aim reads so wrote = tt
+writes_fault left rest (Some written) now after served aim reads so wrote =
+    inr (record { aim = aim; reads = reads; cut = cut_words written now after (texts_of served) (last_words aim) so wrote })
+
+-- the text of a response failed
+writes_cut : (left rest first now after : Option (List ℕ)) (served : List Exchange) (x : Exchange) → WroteSoFar first now served → WroteSome now after (text x.response x.request.last) → WritesTo left rest first after (served ++ x ∷ []) end.WriteFault
+writes_cut left rest None now after served x so wrote = tt
+writes_cut left rest (Some written) now after served x so wrote =
+    inl (record { first = served; last = x; served_are = refl; cut = cut_words written now after (texts_of served) (text x.response x.request.last) so wrote })
+
+wrote_on : (first now after : Option (List ℕ)) (served : List Exchange) (x : Exchange) → WroteSoFar first now served → Wrote now after (text x.response x.request.last) → WroteSoFar first after (served ++ x ∷ [])
+wrote_on None now after served x so wrote = tt
+wrote_on (Some written) now after served x so wrote =
+    let words = text x.response x.request.last in
+    let P : Option (List ℕ) → Type 0 = λ o. Wrote o after words in
+    subst P so wrote ∙ ap Some (append_assoc written (texts_of served) words ∙ ap (λ (l : List ℕ). written ++ l) (sym (texts_more served x)))
+
+moments_of : (limits : Limits) (seat : ℕ) (first front : History) (left now : Option (List ℕ)) (last told : Option ℕ) (greatest : ℕ) (session : Session) (held : Held) (served : List Exchange)
+    → Moved limits seat first front left now last told greatest session held served → AreMoments last greatest served
+moments_of limits seat first front left now last told greatest session held served m =
+    record {
+      never_fall = m.never_fall;
+      bounded = All-weaker (λ (x : Exchange). x.moment ≤ session.moment) (λ (x : Exchange). x.moment ≤ greatest) (λ x h. omega (arith, h, m.bounded)) served m.below;
+      told = m.told;
+    }
+
+read_none : (left : Option (List ℕ)) (held : Held) → held ≡ record { bytes = []; room = connection_limit } → ReadSoFar left left held []
+read_none None held empty = tt
+read_none (Some bytes) held empty =
+    record {
+      taken = [];
+      after = bytes;
+      from = refl;
+      left_is = refl;
+      spells = λ more. sym (ap (λ (h : Held). h.bytes ++ more) empty);
+      room = omega (arith, ap (λ (h : Held). h.room) empty);
+    }
+
+told_none : (last : Option ℕ) → AtLast last []
+told_none None = tt
+told_none (Some last) = All-nil (λ (x : Exchange). x.moment ≡ last)
+
+last_none : (last : Option ℕ) (moment : ℕ) → moment ≡ 0 → LastSoFar last last moment
+last_none None moment zero = tt
+last_none (Some last) moment zero = (refl, omega (arith, zero))
+
+wrote_nothing : (written : Option (List ℕ)) → WroteSoFar written written []
+wrote_nothing None = tt
+wrote_nothing (Some written) = ap Some (sym (append-nil written))
+
+-- the same as moved_more, from what the exchange says
+moved_by : (limits : Limits) (seat : ℕ) (first front after : History) (left now then was is : Option (List ℕ)) (last told tells : Option ℕ) (greatest great : ℕ) (old new : Session) (held holds : Held) (request : Request) {E : Type 0} (result : Result (Unit {0}) E) (served : List Exchange)
+    → Moved limits seat first front left now last told greatest old held served
+    → NextOf held holds now then (Ok (Some request)) → (ex : Exchanged limits seat old new front after request was is result)
+    → old.moment ≤ new.moment → new.moment ≤ max old.moment great → greatest ≤ great → LastGoesOn told tells old.moment new.moment
+    → Moved limits seat first after left then last tells great new holds (served ++ ex.x ∷ [])
+moved_by limits seat first front after left now then was is last told tells greatest great old new held holds request result served m next ex later bounded greater goes =
+    moved_more limits seat first front after left now then last told tells greatest great old new held holds served ex.x m
+    (subst (λ (r : Request). ReadSoFar left then holds (requests_of served ++ r ∷ [])) (sym ex.request_is) (read_more left now then held holds (requests_of served) request m.read next))
+    ex.served ex.newest_is ex.moment_is later bounded greater goes
+
+-- ---- the clauses of the call
+
+pub starts : (limits : Limits) (seat : ℕ) (first : History) (left written : Option (List ℕ)) (last : Option ℕ) (greatest : ℕ) (session : Session) (held : Held)
+    → session.newest ≡ 0 → session.moment ≡ 0 → held ≡ record { bytes = []; room = connection_limit }
+    → Progress limits seat first first left left written written last last greatest session held
+starts limits seat first left written last greatest session held newest moment empty =
+    record {
+      served = [];
+      moved = record {
+        serves = refl;
+        newest = newest;
+        read = read_none left held empty;
+        never_fall = tt;
+        below = All-nil (λ (x : Exchange). x.moment ≤ session.moment);
+        bounded = omega (arith, moment);
+        told = told_none last;
+        goes_on = last_none last session.moment moment;
+      };
+      wrote = wrote_nothing written;
+    }
+
+-- one request more was read, and its response written
+pub goes_on : {limits other : Limits} {seat others : ℕ} {first front after : History} {left now written before was is : Option (List ℕ)} {last told : Option ℕ} {greatest : ℕ} {old new : Session} {held : Held} {request : Request} {E : Type 0} {done : Unit {0}}
+    (mid then : Option (List ℕ)) (tells : Option ℕ) (great : ℕ) (holds : Held)
+    → Progress limits seat first front left now written before last told greatest old held
+    → was ≡ before → NextOf held holds now mid (Ok (Some request)) → then ≡ mid → other ≡ limits → others ≡ seat
+    → Exchanged other others old new front after request was is {E = E} (Ok done)
+    → old.moment ≤ new.moment → new.moment ≤ max old.moment great → greatest ≤ great → LastGoesOn told tells old.moment new.moment
+    → Progress limits seat first after left then written is last tells great new holds
+goes_on {limits} {other} {seat} {others} {first} {front} {after} {left} {now} {written} {before} {was} {is} {last} {told} {greatest} {old} {new} {held} {request} {E} {done} mid then tells great holds p same next rest l s exchanged later bounded greater goes =
+    let ex : Exchanged limits seat old new front after request was is {E = E} (Ok done) = exchanged_as l s old new front after request was is (Ok done) exchanged in
+    let read : NextOf held holds now then (Ok (Some request)) = subst (λ (o : Option (List ℕ)). NextOf held holds now o (Ok (Some request))) (sym rest) next in
+    let wrote : WroteSoFar written was p.served = subst (λ (o : Option (List ℕ)). WroteSoFar written o p.served) (sym same) p.wrote in
+    record {
+      served = p.served ++ ex.x ∷ [];
+      moved = moved_by limits seat first front after left now then was is last told tells greatest great old new held holds request (Ok done) p.served p.moved read ex later bounded greater goes;
+      wrote = wrote_on written was is p.served ex.x wrote (subst (λ (r : Request). Wrote was is (text ex.x.response r.last)) (sym ex.request_is) ex.wrote);
+    }
+
+-- one request more was read, and the write of its response failed
+pub failed : {limits other : Limits} {seat others : ℕ} {first front after : History} {left now written before was is : Option (List ℕ)} {last told : Option ℕ} {greatest : ℕ} {old new : Session} {held : Held} {request : Request} {E : Type 0} {e : E}
+    (mid then : Option (List ℕ)) (tells : Option ℕ) (great : ℕ) (holds : Held)
+    → Progress limits seat first front left now written before last told greatest old held
+    → was ≡ before → NextOf held holds now mid (Ok (Some request)) → then ≡ mid → other ≡ limits → others ≡ seat
+    → Exchanged other others old new front after request was is (Err e)
+    → old.moment ≤ new.moment → new.moment ≤ max old.moment great → greatest ≤ great → LastGoesOn told tells old.moment new.moment
+    → Enumerates limits after
+    → Headline limits seat first after left then written is last great end.WriteFault
+failed {limits} {other} {seat} {others} {first} {front} {after} {left} {now} {written} {before} {was} {is} {last} {told} {greatest} {old} {new} {held} {request} {E} {e} mid then tells great holds p same next rest l s exchanged later bounded greater goes law =
+    let ex : Exchanged limits seat old new front after request was is (Err e) = exchanged_as l s old new front after request was is (Err e) exchanged in
+    let read : NextOf held holds now then (Ok (Some request)) = subst (λ (o : Option (List ℕ)). NextOf held holds now o (Ok (Some request))) (sym rest) next in
+    let wrote : WroteSoFar written was p.served = subst (λ (o : Option (List ℕ)). WroteSoFar written o p.served) (sym same) p.wrote in
+    let m = moved_by limits seat first front after left now then was is last told tells greatest great old new held holds request (Err e) p.served p.moved read ex later bounded greater goes in
+    record {
+      served = p.served ++ ex.x ∷ [];
+      serves = m.serves;
+      enumerates = law;
+      reads = reads_fault left then then holds (requests_of (p.served ++ ex.x ∷ [])) m.read;
+      writes = writes_cut left then written was is p.served ex.x wrote (subst (λ (r : Request). WroteSome was is (text ex.x.response r.last)) (sym ex.request_is) ex.wrote);
+      moments = moments_of limits seat first after left then last tells great new holds (p.served ++ ex.x ∷ []) m;
+    }
+
+-- the input ended between two requests
+pub ended : {limits : Limits} {seat : ℕ} {first front : History} {left now written before was : Option (List ℕ)} {last told : Option ℕ} {greatest : ℕ} {session : Session} {held : Held}
+    (then : Option (List ℕ)) (new : Held)
+    → Progress limits seat first front left now written before last told greatest session held
+    → was ≡ before → NextOf held new now then (Ok None) → Enumerates limits front
+    → Headline limits seat first front left then written was last greatest end.Done
+ended {limits} {seat} {first} {front} {left} {now} {written} {before} {was} {last} {told} {greatest} {session} {held} then new p same next law =
+    let wrote : WroteSoFar written was p.served = subst (λ (o : Option (List ℕ)). WroteSoFar written o p.served) (sym same) p.wrote in
+    record {
+      served = p.served;
+      serves = p.moved.serves;
+      enumerates = law;
+      reads = reads_done left now then held new (requests_of p.served) p.moved.read next;
+      writes = writes_end left then written was was p.served end.Done (λ e. cc) wrote (wrote_none was);
+      moments = moments_of limits seat first front left now last told greatest session held p.served p.moved;
+    }
+
+-- the wire ended, and its last words were written or cut
+pub closed : {limits : Limits} {seat : ℕ} {first front : History} {left now written before was is : Option (List ℕ)} {last told : Option ℕ} {greatest : ℕ} {session : Session} {held : Held} {wired : WireEnd} {result : ConnEnd}
+    (mid then : Option (List ℕ)) (new : Held)
+    → Progress limits seat first front left now written before last told greatest session held
+    → was ≡ before → NextOf held new now mid (Err wired) → then ≡ mid → Closed was is wired result → Enumerates limits front
+    → Headline limits seat first front left then written is last greatest result
+closed {limits} {seat} {first} {front} {left} {now} {written} {before} {was} {is} {last} {told} {greatest} {session} {held} {wired} {result} mid then new p same next rest closes law =
+    let moments = moments_of limits seat first front left now last told greatest session held p.served p.moved in
+    let wrote : WroteSoFar written was p.served = subst (λ (o : Option (List ℕ)). WroteSoFar written o p.served) (sym same) p.wrote in
+    let read : NextOf held new now then (Err wired) = subst (λ (o : Option (List ℕ)). NextOf held new now o (Err wired)) (sym rest) next in
+    let reads = reads_end left now then held new (requests_of p.served) wired closes.aim p.moved.read read closes.aims in
+    let P : ConnEnd → Type 0 = λ r. Headline limits seat first front left then written is last greatest r in
+    ⊎_elim
+    (λ (fine : (result ≡ closes.aim) × Wrote was is (last_words closes.aim)).
+    subst P (sym fine.0) (record {
+      served = p.served;
+      serves = p.moved.serves;
+      enumerates = law;
+      reads = reads;
+      writes = writes_end left then written was is p.served closes.aim (λ e. never_a_fault wired (subst (λ (a : ConnEnd). Aims wired a) e closes.aims)) wrote fine.1;
+      moments = moments;
+    }))
+    (λ (cut : (result ≡ end.WriteFault) × WroteSome was is (last_words closes.aim)).
+    subst P (sym cut.0) (record {
+      served = p.served;
+      serves = p.moved.serves;
+      enumerates = law;
+      reads = reads_fault left now then held (requests_of p.served) p.moved.read;
+      writes = writes_fault left then written was is p.served closes.aim reads wrote cut.1;
+      moments = moments;
+    }))
+    closes.wrote
+
+-- want of memory says nothing of the bytes
+pub next_wants : (now after : Option (List ℕ)) (held new : Held) → NextOf held new now after (Err wire.NoMemory)
+next_wants None after held new = tt
+next_wants (Some bytes) after held new = tt

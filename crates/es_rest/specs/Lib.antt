@@ -1,0 +1,11 @@
+pub mod Ids
+pub mod Bodies
+pub mod Paths
+pub mod Scripts
+pub mod Items
+pub mod Route
+pub mod Talk
+pub mod Led
+pub mod Headline
+pub mod Turns
+pub mod Whole

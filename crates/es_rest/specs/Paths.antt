@@ -1,0 +1,103 @@
+-- Which route a path has, and what its parts and its query say (RFC 3986; the URL Standard's forms).
+use Rattle.std.specs.Prelude.{ℕ, zero, suc, ◌+◌, ◌==◌, ◌||◌, ◌&&◌, Bool, true, false, bytes_eq, if◌then◌else◌, List, [], ◌∷◌, map, take, drop, Option, Some, None, option_map, position, Result, Ok, Err, codes}
+use Rattle.std.specs.Str.{is_utf8}
+use Rattle.std.specs.Str.Lossy.{utf8_lossy}
+use Rattle.std.specs.List.{list_any}
+use Rattle.form_urlencoded.specs.Form.{decode, raw_pairs}
+use Rattle.percent_encoding.specs.Percent.{percent_decode}
+use Rattle.matchit.specs.Rows.{RowsOf}
+use Rattle.matchit.specs.Router.{RouteOf, route_from}
+use Rattle.matchit.specs.Order.{placed}
+use Rattle.matchit.specs.Seek.{first}
+use Rattle.matchit.specs.Route.{Scan, parse_route}
+use Rattle.matchit.specs.declared.error.InsertError.{InsertError}
+use Rattle.reply_json.specs.declared.fault.RestFault.{RestFault}
+use Rattle.reply_json.specs.declared.fault.RestFault.TheVariants.{BadParam}
+use Rattle.es_rest.specs.declared.paths.Place.{Place}
+use Rattle.es_rest.specs.declared.paths.Place.TheVariants.{Index, Doc, Bulk, IndexBulk, Refresh, OpenPit, Search}
+use Rattle.es_rest.specs.declared.params.Param.{Param}
+
+-- ---- routes
+
+abbrev pub Routes : Type 0
+Routes = RowsOf (RouteOf Place)
+
+abbrev pub read_route : Result Scan InsertError → Place → Routes → Routes
+read_route (Ok scan) place routes = placed (scan.pattern, route_from scan place) routes
+read_route (Err error) place routes = routes
+
+-- the routes of a router with one more
+abbrev pub with_route : List ℕ → Place → Routes → Routes
+with_route route place routes = read_route (parse_route route) place routes
+
+unfoldable pub all_routes : Routes
+all_routes =
+    with_route (codes "/_search") Search
+    (with_route (codes "/{index}/_pit") OpenPit
+    (with_route (codes "/{index}/_refresh") Refresh
+    (with_route (codes "/{index}/_bulk") IndexBulk
+    (with_route (codes "/_bulk") Bulk
+    (with_route (codes "/{index}/_doc/{id}") Doc
+    (with_route (codes "/{index}") Index []))))))
+
+-- the route that a path has, as it is sent: text goes before a parameter, which is a whole part of the path
+unfoldable pub place_of : List ℕ → Option Place
+place_of path = option_map (λ (route : RouteOf Place). route.value) (first all_routes path)
+
+-- ---- the parts of a path
+
+abbrev pub slash : ℕ
+slash = 47
+
+abbrev pub up_to : Option ℕ → List ℕ → List ℕ
+up_to None path = path
+up_to (Some at) path = take at path
+
+abbrev pub behind : Option ℕ → List ℕ → List ℕ
+behind None path = []
+behind (Some at) path = drop (at + 1) path
+
+-- the bytes behind so many slashes, up to the next one
+abbrev pub part : ℕ → List ℕ → List ℕ
+part zero path = up_to (position (λ b. b == slash) path) path
+part (suc count) path = part count (behind (position (λ b. b == slash) path) path)
+
+-- the part without its escapes, where that is a text; else the fault names the parameter
+abbrev pub decoded : List ℕ → List ℕ → Result (List ℕ) RestFault
+decoded name part = if is_utf8 (percent_decode part) then Ok (percent_decode part) else Err (BadParam name)
+
+-- ---- a query
+
+-- the names and values of a query in turn; what is no text has U+FFFD in place of what is none
+abbrev pub params_of : List ℕ → List Param
+params_of query = map (λ (pair : List ℕ × List ℕ). let p : Param = record { name = utf8_lossy (decode pair.0); value = utf8_lossy (decode pair.1) } in p) (raw_pairs query)
+
+abbrev pub has_param : List ℕ → List Param → Bool
+has_param name params = list_any (λ param. bytes_eq param.name name) params
+
+-- whether a value of `refresh` asks for a refresh
+abbrev pub refresh_value : List ℕ → Option Bool
+refresh_value value =
+    if bytes_eq value [] || bytes_eq value (codes "true") || bytes_eq value (codes "wait_for") then Some true
+    else (if bytes_eq value (codes "false") then Some false else None)
+
+abbrev pub value_or_fault : Option Bool → (Bool → Result Bool RestFault) → RestFault → Result Bool RestFault
+value_or_fault None more fault = Err fault
+value_or_fault (Some value) more fault = more value
+
+abbrev pub unless_given : Option Bool → Option Bool → Option Bool
+unless_given None value = value
+unless_given (Some given) value = None
+
+abbrev pub given_or_false : Option Bool → Bool
+given_or_false None = false
+given_or_false (Some value) = value
+
+-- Whether these parameters ask for a refresh, where `refresh` is taken, at most once: the first that isn't taken is
+-- a fault. None asks for it by being left out.
+abbrev pub refresh_in : Bool → Option Bool → List Param → Result Bool RestFault
+refresh_in taken given [] = Ok (given_or_false given)
+refresh_in taken given (param ∷ params) =
+    if taken && bytes_eq param.name (codes "refresh")
+    then value_or_fault (unless_given given (refresh_value param.value)) (λ value. refresh_in taken (Some value) params) (BadParam param.name)
+    else Err (BadParam param.name)

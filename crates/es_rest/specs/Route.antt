@@ -1,0 +1,188 @@
+-- What a request asks for, or the first class of refusals that it meets.
+use Rattle.std.specs.Prelude.{◌≡◌, ℕ, ◌&&◌, ◌||◌, ◌==◌, Bool, true, false, not, bytes_eq, if◌then◌else◌, List, [], ◌∷◌, length, Option, Some, None, Result, Ok, Err, codes}
+use Rattle.std.specs.List.{list_all}
+use Rattle.es_types.specs.declared.doc.Doc.{Doc}
+use Rattle.es_types.specs.Name.{is_index_name}
+use Rattle.es_types.specs.declared.limit.LimitName.TheVariants as limit
+use Rattle.http_wire.specs.declared.request.Request.{Request}
+use Rattle.doc_json.specs.declared.fault.BodyFault.{BodyFault}
+use Rattle.doc_json.specs.declared.fault.BodyFault.TheVariants as body
+use Rattle.doc_json.specs.declared.bulk.BulkItem.{BulkItem}
+use Rattle.doc_json.specs.declared.index.IndexSpec.{IndexSpec}
+use Rattle.doc_json.specs.Documents.{doc_of}
+use Rattle.doc_json.specs.Indexes.{index_of}
+use Rattle.doc_json.specs.Json.{is_white}
+use Rattle.list_machine.specs.Objects.{IsObject}
+use Rattle.list_machine.specs.Run.{CreatesSome}
+use Rattle.list_machine.specs.State.{docs}
+use Rattle.list_machine.specs.declared.event.Event.TheVariants as event
+use Rattle.list_machine.specs.declared.event.Target.TheVariants.{Pit}
+use Rattle.reply_json.specs.declared.fault.RestFault.{RestFault}
+use Rattle.reply_json.specs.declared.fault.RestFault.TheVariants as fault
+use Rattle.es_rest.specs.declared.ask.Ask.{Ask}
+use Rattle.es_rest.specs.declared.ask.Ask.TheVariants as ask
+use Rattle.es_rest.specs.declared.body.Wanted.{Wanted}
+use Rattle.es_rest.specs.declared.paths.Place.{Place}
+use Rattle.es_rest.specs.declared.paths.Place.TheVariants as place
+use Rattle.es_rest.specs.Bodies.{search_of}
+use Rattle.es_rest.specs.Items.{body_fault, items_of, named}
+use Rattle.es_rest.specs.Paths.{decoded, has_param, params_of, part, place_of, refresh_in}
+
+abbrev pub and_then : {A B : Type 0} → Result A RestFault → (A → Result B RestFault) → Result B RestFault
+and_then (Ok value) next = next value
+and_then (Err fault) next = Err fault
+
+abbrev pub is_method : List ℕ → Request → Bool
+is_method name request = bytes_eq request.method name
+
+abbrev pub is_empty : List ℕ → Bool
+is_empty bytes = length bytes == 0
+
+-- nothing but white space
+abbrev pub is_blank : List ℕ → Bool
+is_blank bytes = list_all is_white bytes
+
+-- ---- what a route of its own reads
+
+-- the service's own words begin with a low line
+abbrev pub is_own_word : List ℕ → Bool
+is_own_word [] = false
+is_own_word (b ∷ bytes) = b == 95
+
+abbrev pub index_in : Request → Result (List ℕ) RestFault
+index_in request = decoded (codes "index") (part 1 request.path)
+
+abbrev pub id_in : Request → Result (List ℕ) RestFault
+id_in request = decoded (codes "id") (part 3 request.path)
+
+abbrev pub no_body : Request → Result Bool RestFault
+no_body request = if is_blank request.body then Ok true else Err fault.BadBody
+
+-- a bulk has a body
+abbrev pub some_body : Request → Result Bool RestFault
+some_body request = if is_empty request.body then Err fault.BadBody else Ok true
+
+abbrev pub named_index : {A : Type 0} → List ℕ → A → Result A RestFault
+named_index index asked = if is_index_name index then Ok asked else Err (fault.Limit limit.Index)
+
+-- a body that is none comes before a name that is none, and that before a limit of the body
+abbrev pub create_of : List ℕ → Result IndexSpec BodyFault → Result Ask RestFault
+create_of index (Ok spec) = named_index index (ask.Create index spec)
+create_of index (Err (body.Limit name)) = if is_index_name index then Err (fault.Limit name) else Err (fault.Limit limit.Index)
+create_of index (Err other) = Err (body_fault other)
+
+abbrev pub put_of : List ℕ → List ℕ → Bool → Result Doc BodyFault → Result Ask RestFault
+put_of index id refresh (Ok doc) = named index id (ask.Put index id doc refresh)
+put_of index id refresh (Err fault) = Err (body_fault fault)
+
+abbrev pub remove_of : List ℕ → List ℕ → Bool → Result Ask RestFault
+remove_of index id refresh = named index id (ask.Remove index id refresh)
+
+-- the items of a bulk, or the fault of the first that is none
+abbrev pub checked : Result (List BulkItem) BodyFault → Result (Unit {0}) RestFault
+checked (Ok items) = Ok tt
+checked (Err fault) = Err (body_fault fault)
+
+-- ---- the routes
+
+abbrev pub create_asked : Request → Result Ask RestFault
+create_asked request =
+    and_then (index_in request) (λ index. and_then (refresh_in false None (params_of request.query)) (λ refresh.
+    create_of index (index_of request.body)))
+
+abbrev pub put_asked : Request → Result Ask RestFault
+put_asked request =
+    and_then (index_in request) (λ index. and_then (id_in request) (λ id.
+    and_then (refresh_in true None (params_of request.query)) (λ refresh. put_of index id refresh (doc_of request.body))))
+
+abbrev pub remove_asked : Request → Result Ask RestFault
+remove_asked request =
+    and_then (index_in request) (λ index. and_then (id_in request) (λ id.
+    and_then (refresh_in true None (params_of request.query)) (λ refresh. and_then (no_body request) (λ none.
+    remove_of index id refresh))))
+
+abbrev pub bulk_asked : Option (List ℕ) → Request → Result Ask RestFault
+bulk_asked index request =
+    and_then (refresh_in true None (params_of request.query)) (λ refresh. and_then (some_body request) (λ some.
+    and_then (checked (items_of index request.body)) (λ items. Ok (ask.Bulk index request.body refresh))))
+
+abbrev pub index_bulk_asked : Request → Result Ask RestFault
+index_bulk_asked request = and_then (index_in request) (λ index. bulk_asked (Some index) request)
+
+abbrev pub refresh_asked : Request → Result Ask RestFault
+refresh_asked request =
+    and_then (index_in request) (λ index. and_then (refresh_in false None (params_of request.query)) (λ refresh.
+    and_then (no_body request) (λ none. named_index index (ask.Refresh index))))
+
+-- the one opening and the one search that are built
+abbrev pub minute : ℕ
+minute = 60000
+
+abbrev pub is_opening : Request → Bool
+is_opening request =
+    is_method (codes "POST") request && (bytes_eq (part 1 request.path) docs
+    && (bytes_eq request.query (codes "keep_alive=1m") && is_empty request.body))
+
+abbrev pub opening_asked : Request → Result Ask RestFault
+opening_asked request = if is_opening request then Ok (ask.OpenPit docs minute) else Err fault.NotBuilt
+
+abbrev pub wanted_asked : Option Wanted → Result Ask RestFault
+wanted_asked None = Err fault.NotBuilt
+wanted_asked (Some w) = Ok (ask.Search (Pit w.number) (record { size = w.size; after = w.after }))
+
+abbrev pub search_asked : ℕ → Request → Result Ask RestFault
+search_asked newest request =
+    if is_method (codes "POST") request && not request.has_query then wanted_asked (search_of newest request.body) else Err fault.NotBuilt
+
+-- a route of another method, or with the parameter `pretty`, isn't built yet
+abbrev pub check_built : Bool → Request → Result (Unit {0}) RestFault
+check_built taken request = if taken && not (has_param (codes "pretty") (params_of request.query)) then Ok tt else Err fault.NotBuilt
+
+abbrev pub built : Bool → Request → Result Ask RestFault → Result Ask RestFault
+built taken request asked = and_then (check_built taken request) (λ yes. asked)
+
+abbrev pub puts_or_posts : Request → Bool
+puts_or_posts request = is_method (codes "PUT") request || is_method (codes "POST") request
+
+abbrev pub gets_or_posts : Request → Bool
+gets_or_posts request = is_method (codes "GET") request || is_method (codes "POST") request
+
+abbrev pub doc_asked : Request → Result Ask RestFault
+doc_asked request =
+    if puts_or_posts request then built true request (put_asked request)
+    else built (is_method (codes "DELETE") request) request (remove_asked request)
+
+-- what a request of a route that begins with an index asks for
+abbrev pub asked_at_index : Request → Place → Result Ask RestFault
+asked_at_index request place.Index = built (is_method (codes "PUT") request) request (create_asked request)
+asked_at_index request place.Doc = doc_asked request
+asked_at_index request place.IndexBulk = built (puts_or_posts request) request (index_bulk_asked request)
+asked_at_index request place.Refresh = built (gets_or_posts request) request (refresh_asked request)
+asked_at_index request other = Err fault.NotBuilt
+
+-- the index's part of the path is none of the service's own words
+abbrev pub of_index : Request → Place → Result Ask RestFault
+of_index request place = if is_own_word (part 1 request.path) then Err fault.NotBuilt else asked_at_index request place
+
+abbrev pub asked_at : ℕ → Request → Option Place → Result Ask RestFault
+asked_at newest request None = Err fault.NotBuilt
+asked_at newest request (Some place.Bulk) = built (puts_or_posts request) request (bulk_asked None request)
+asked_at newest request (Some place.OpenPit) = opening_asked request
+asked_at newest request (Some place.Search) = search_asked newest request
+asked_at newest request (Some place) = of_index request place
+
+-- What a request asks for, where points in time up to the newest were opened.
+unfoldable pub asked_of : ℕ → Request → Result Ask RestFault
+asked_of newest request = asked_at newest request (place_of request.path)
+
+-- a call answers that, or wanted memory
+abbrev pub Answers : {A : Type 0} → Result A RestFault → Result A RestFault → Type 0
+Answers (Err fault.NoMemory) asked = Unit {0}
+Answers answer asked = asked ≡ answer
+
+-- what is asked for may be asked: an index of 1 to 1,024 shards, a put of a JSON object, a bulk of items
+abbrev pub AsksSound : Ask → Type 0
+AsksSound (ask.Create index spec) = CreatesSome (event.Create index spec.shards spec.mapping)
+AsksSound (ask.Put index id doc refresh) = IsObject doc.source
+AsksSound (ask.Bulk index body refresh) = (items : List BulkItem) × (items_of index body ≡ Ok items)
+AsksSound other = Unit {0}

@@ -1,0 +1,127 @@
+-- What is asked of a service, event by event: each next event follows from the replies so far.
+use Rattle.std.specs.Prelude.{◌≡◌, ◌⊎◌, ℕ, ◌+◌, List, [], ◌∷◌, ◌++◌, Option, Some, None, is_some, if◌then◌else◌, Bool}
+use Rattle.list_machine.specs.declared.event.Event.{Event}
+use Rattle.list_machine.specs.declared.event.Event.TheVariants as event
+use Rattle.list_machine.specs.declared.event.Reply.{Reply}
+use Rattle.list_machine.specs.declared.event.Reply.TheVariants as reply
+use Rattle.list_machine.specs.declared.event.Target.TheVariants.{Pit}
+use Rattle.list_machine.specs.declared.event.Limits.{Limits}
+use Rattle.list_machine.specs.Run.{History}
+use Rattle.list_machine.specs.Serving.{Asked, MayHaveAsked, asked}
+use Rattle.reply_json.specs.declared.fault.RestFault.{RestFault}
+use Rattle.reply_json.specs.declared.fault.RestFault.TheVariants as fault
+use Rattle.reply_json.specs.Ids.{id_text}
+
+-- events that were asked, each with its reply
+abbrev pub Part : Type 0
+Part = List (Event × Reply)
+
+-- the event that is asked behind these, unless all were asked
+abbrev pub Script : Type 0
+Script = Part → Option Event
+
+-- ---- refusals
+
+-- what an event names: an index, or the id of a point in time
+abbrev pub name_of : Event → List ℕ
+name_of (event.Create index shards mapping) = index
+name_of (event.Write index id change) = index
+name_of (event.Seal index) = index
+name_of (event.Publish index shard upto) = index
+name_of (event.OpenPit index keep) = index
+name_of (event.Search (Pit number) request) = id_text number
+name_of event.Quiet = []
+
+-- why a reply refuses its event
+abbrev pub refusal : List ℕ → Reply → Option RestFault
+refusal name reply.Spent = Some fault.Spent
+refusal name reply.NoIndex = Some (fault.NoIndex name)
+refusal name reply.Exists = Some (fault.Exists name)
+refusal name (reply.BadDoc doc) = Some (fault.BadDoc doc)
+refusal name reply.Missing = Some (fault.NoContext name)
+refusal name (reply.TooMany limit) = Some (fault.TooMany limit)
+refusal name reply.ShardFull = Some fault.ShardFull
+refusal name other = None
+
+abbrev pub is_refused : Reply → Bool
+is_refused said = is_some (refusal [] said)
+
+abbrev pub first_of : Option RestFault → Option RestFault → Option RestFault
+first_of None other = other
+first_of (Some fault) other = Some fault
+
+-- the first refusal of these
+abbrev pub refused : Part → Option RestFault
+refused [] = None
+refused (said ∷ part) = first_of (refusal (name_of said.0) said.1) (refused part)
+
+-- ---- scripts
+
+-- these events one after the other, whatever they are answered, and then what follows from their replies
+abbrev pub each : List Event → (List Reply → Script) → Script
+each [] later part = later [] part
+each (next ∷ events) later [] = Some next
+each (next ∷ events) later (said ∷ part) = each events (λ replies. later (said.1 ∷ replies)) part
+
+-- a Publish of each shard from this one on, up to its number, and then more; nothing behind a refused one
+abbrev pub publishes : List ℕ → ℕ → List ℕ → Script → Script
+publishes index shard [] later part = later part
+publishes index shard (upto ∷ numbers) later [] = Some (event.Publish index shard upto)
+publishes index shard (upto ∷ numbers) later (said ∷ part) = if is_refused said.1 then None else publishes index (shard + 1) numbers later part
+
+-- behind a Seal its shards are published
+abbrev pub behind_seal : List ℕ → Reply → Script → Script
+behind_seal index (reply.Sealed numbers) later part = publishes index 0 numbers later part
+behind_seal index other later part = None
+
+-- a refresh of an index, and then more
+abbrev pub refresh : List ℕ → Script → Script
+refresh index later [] = Some (event.Seal index)
+refresh index later (said ∷ part) = behind_seal index said.1 later part
+
+-- a refresh of each index in turn
+abbrev pub refreshes : List (List ℕ) → Script
+refreshes [] part = None
+refreshes (index ∷ indexes) part = refresh index (refreshes indexes) part
+
+-- ---- what became of a history
+
+-- The history goes from old to new while a seat asks for these events, as the script says, and gets these
+-- replies. All entries carry the moment.
+abbrev pub Talks : Limits → ℕ → ℕ → Script → History → History → Part → Type 0
+Talks limits seat moment script old new [] = new ≡ old
+Talks limits seat moment script old new (said ∷ part) =
+    (mid : History) × (script [] ≡ Some said.0) × Asked limits seat 4 old mid (asked seat moment said.0) said.1
+    × Talks limits seat moment (λ rest. script (said ∷ rest)) mid new part
+
+-- all of the script was asked, and this is its first refusal
+pub record Ran (limits : Limits) (seat moment : ℕ) (script : Script) (old new : History) (fault : Option RestFault) : Type 0 where
+  pub part : Part
+  pub talks : Talks limits seat moment script old new part
+  pub all : script part ≡ None
+  pub is : refused part ≡ fault
+
+-- some first events of the script were asked, the next one perhaps
+pub record CutShort (limits : Limits) (seat moment : ℕ) (script : Script) (old new : History) : Type 0 where
+  pub part : Part
+  pub mid : History
+  pub talks : Talks limits seat moment script old mid part
+  pub rest : (new ≡ mid) ⊎ ((event : Event) × (script part ≡ Some event) × MayHaveAsked seat 4 mid new (asked seat moment event))
+
+-- a way is what a script begins with, whatever follows it: all of it was asked, and nothing was refused
+pub record Went (limits : Limits) (seat moment : ℕ) (way : Script → Script) (old new : History) : Type 0 where
+  pub part : Part
+  pub talks : (later : Script) → Talks limits seat moment (way later) old new part
+  pub goes : (later : Script) (rest : Part) → way later (part ++ rest) ≡ later rest
+  pub fine : refused part ≡ None
+
+-- a reply ended the way, and this is the first refusal
+pub record Stopped (limits : Limits) (seat moment : ℕ) (way : Script → Script) (old new : History) (fault : Option RestFault) : Type 0 where
+  pub part : Part
+  pub talks : (later : Script) → Talks limits seat moment (way later) old new part
+  pub all : (later : Script) → way later part ≡ None
+  pub is : refused part ≡ fault
+
+-- memory was wanted on the way
+abbrev pub Strayed : Limits → ℕ → ℕ → (Script → Script) → History → History → Type 0
+Strayed limits seat moment way old new = (later : Script) → CutShort limits seat moment (way later) old new

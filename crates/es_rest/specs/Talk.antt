@@ -1,0 +1,165 @@
+-- Which events a request asks for, what it is answered, and what a row of requests makes of the history.
+use Rattle.std.specs.Prelude.{◌≡◌, ◌⊎◌, ℕ, ◌+◌, ◌*◌, max, Bool, if◌then◌else◌, List, [], ◌∷◌, Option, Some, None, Ok, Err}
+use Rattle.http_wire.specs.declared.request.Request.{Request}
+use Rattle.list_machine.specs.declared.event.Event.{Event}
+use Rattle.list_machine.specs.declared.event.Event.TheVariants as event
+use Rattle.list_machine.specs.declared.event.Change.TheVariants as change
+use Rattle.list_machine.specs.declared.event.Reply.{Reply}
+use Rattle.list_machine.specs.declared.event.Reply.TheVariants as reply
+use Rattle.list_machine.specs.declared.event.Target.TheVariants.{Pit}
+use Rattle.list_machine.specs.declared.event.Limits.{Limits}
+use Rattle.list_machine.specs.Run.{History, state_of}
+use Rattle.list_machine.specs.Serving.{GrowsBeside, applied}
+use Rattle.reply_json.specs.declared.fault.RestFault.{RestFault}
+use Rattle.reply_json.specs.declared.fault.RestFault.TheVariants as fault
+use Rattle.reply_json.specs.declared.response.Response.{Response}
+use Rattle.reply_json.specs.declared.response.Response.TheVariants as response
+use Rattle.reply_json.specs.declared.response.Response.TheVariants.{Fault}
+use Rattle.reply_json.specs.declared.response.RouteName.{RouteName}
+use Rattle.reply_json.specs.declared.response.RouteName.TheVariants as route
+use Rattle.reply_json.specs.Ids.{id_text}
+use Rattle.reply_json.specs.Documents.{wrote_status}
+use Rattle.es_rest.specs.declared.ask.Ask.{Ask}
+use Rattle.es_rest.specs.declared.ask.Ask.TheVariants.{Create, Put, Remove, Bulk, Refresh, OpenPit, Search}
+use Rattle.es_rest.specs.Items.{changed_by, items_in, items_of, lines_of, writes_of}
+use Rattle.es_rest.specs.Route.{asked_of}
+use Rattle.es_rest.specs.Scripts.{CutShort, Part, Script, Talks, each, is_refused, refreshes, refusal, refused}
+
+-- ---- what is asked
+
+-- the events that a request asks for first, whatever they are answered
+abbrev pub events_of : Ask → List Event
+events_of (Create index spec) = event.Create index spec.shards spec.mapping ∷ []
+events_of (Put index id doc refresh) = event.Write index id (change.Put doc) ∷ []
+events_of (Remove index id refresh) = event.Write index id change.Remove ∷ []
+events_of (Bulk index body refresh) = writes_of (items_in (items_of index body))
+events_of (Refresh index) = []
+events_of (OpenPit index keep) = event.OpenPit index keep ∷ []
+events_of (Search target request) = event.Search target request ∷ []
+
+-- the index of a Write that was taken, where a refresh is asked
+abbrev pub written : Bool → List ℕ → List Reply → List (List ℕ)
+written refresh index [] = []
+written refresh index (said ∷ replies) = if is_refused said then [] else (if refresh then index ∷ [] else [])
+
+-- the indexes that it refreshes then, by the replies to those
+abbrev pub refreshed_of : Ask → List Reply → List (List ℕ)
+refreshed_of (Put index id doc refresh) replies = written refresh index replies
+refreshed_of (Remove index id refresh) replies = written refresh index replies
+refreshed_of (Bulk index body refresh) replies = if refresh then changed_by [] (items_in (items_of index body)) replies else []
+refreshed_of (Refresh index) replies = index ∷ []
+refreshed_of other replies = []
+
+unfoldable pub script_of : Ask → Script
+script_of ask = each (events_of ask) (λ replies. refreshes (refreshed_of ask replies))
+
+-- ---- what is answered
+
+abbrev pub status_of : Reply → ℕ
+status_of (reply.Wrote result seq) = wrote_status result
+status_of other = 200
+
+-- what a reply on that route is answered, unless it refuses
+abbrev pub settled : Option RestFault → Reply → RouteName → Response
+settled (Some fault) said to = response.Fault fault
+settled None said to = response.Json (status_of said) said to
+
+-- what the one event of a request is answered
+abbrev pub one_answer : List ℕ → RouteName → List Reply → Response
+one_answer name to [] = response.Fault fault.NotBuilt
+one_answer name to (said ∷ replies) = settled (refusal name said) said to
+
+-- what a refresh is answered: the reply to its Seal
+abbrev pub seal_answer : Part → Response
+seal_answer [] = response.Fault fault.NotBuilt
+seal_answer (said ∷ part) = response.Json (status_of said.1) said.1 route.Refresh
+
+-- what the replies are answered, where no refresh was refused
+abbrev pub answer_of : Ask → List Reply → Part → Response
+answer_of (Create index spec) replies part = one_answer index (route.Create index) replies
+answer_of (Put index id doc refresh) replies part = one_answer index (route.Put index id) replies
+answer_of (Remove index id refresh) replies part = one_answer index (route.Remove index id) replies
+answer_of (Bulk index body refresh) replies part = response.Bulk (lines_of (items_in (items_of index body)) replies)
+answer_of (Refresh index) replies part = seal_answer part
+answer_of (OpenPit index keep) replies part = one_answer index route.OpenPit replies
+answer_of (Search (Pit number) request) replies part = one_answer (id_text number) (route.Search number) replies
+
+abbrev pub or_fault : Option RestFault → Response → Response
+or_fault (Some why) answer = response.Fault why
+or_fault None answer = answer
+
+-- what follows from the replies to these events, and from the part behind them
+abbrev pub after_each : List Event → (List Reply → Part → Response) → Part → Response
+after_each [] later part = later [] part
+after_each (event ∷ events) later [] = response.Fault fault.NotBuilt
+after_each (event ∷ events) later (said ∷ part) = after_each events (λ replies rest. later (said.1 ∷ replies) rest) part
+
+-- what a request is answered: a refused refresh has the last word
+unfoldable pub response_of : Ask → Part → Response
+response_of ask part = after_each (events_of ask) (λ replies rest. or_fault (refused rest) (answer_of ask replies rest)) part
+
+-- ---- what became of the history
+
+-- all events of a request were asked, and the response prints their replies
+pub record Conversation (limits : Limits) (seat moment : ℕ) (ask : Ask) (old new : History) (response : Response) : Type 0 where
+  pub part : Part
+  pub talks : Talks limits seat moment (script_of ask) old new part
+  pub all : script_of ask part ≡ None
+  pub is : response ≡ response_of ask part
+
+-- memory was wanted on the way
+abbrev pub Interrupted : Limits → ℕ → ℕ → Ask → History → History → Type 0
+Interrupted limits seat moment ask old new = CutShort limits seat moment (script_of ask) old new
+
+-- a refused request asks for nothing
+pub record IsFault (newest : ℕ) (old new : History) (request : Request) (response : Response) : Type 0 where
+  pub fault : RestFault
+  pub route : asked_of newest request ≡ Err fault
+  pub same : new ≡ old
+  pub is : response ≡ Fault fault
+
+pub record IsDone (limits : Limits) (seat moment newest : ℕ) (old new : History) (request : Request) (response : Response) : Type 0 where
+  pub ask : Ask
+  pub route : asked_of newest request ≡ Ok ask
+  pub conversation : Conversation limits seat moment ask old new response
+
+pub record IsCutShort (limits : Limits) (seat moment newest : ℕ) (old new : History) (request : Request) : Type 0 where
+  pub ask : Ask
+  pub route : asked_of newest request ≡ Ok ask
+  pub interrupted : Interrupted limits seat moment ask old new
+
+-- memory was wanted, at any point of it
+pub record WantsMemory (limits : Limits) (seat moment newest : ℕ) (old new : History) (request : Request) (response : Response) : Type 0 where
+  pub asked : (new ≡ old) ⊎ IsCutShort limits seat moment newest old new request
+  pub is : response ≡ Fault fault.NoMemory
+
+-- what a request asks for, and its response
+abbrev pub Responds : Limits → ℕ → ℕ → ℕ → History → History → Request → Response → Type 0
+Responds limits seat moment newest old new request response =
+    IsFault newest old new request response
+    ⊎ (IsDone limits seat moment newest old new request response ⊎ WantsMemory limits seat moment newest old new request response)
+
+-- a request, the connection's moment at it, and its response
+pub record Exchange : Type 0 where
+  pub request : Request
+  pub moment : ℕ
+  pub response : Response
+
+-- the newest point in time of which responses told
+abbrev pub newest_after : ℕ → Response → ℕ
+newest_after newest (response.Json status (reply.Opened number) route) = max newest number
+newest_after newest other = newest
+
+-- the response, and behind it the help and the tidying that go with every request
+pub record Served (limits : Limits) (seat newest : ℕ) (old new : History) (x : Exchange) : Type 0 where
+  pub answered : History
+  pub helped : History
+  pub responds : Responds limits seat x.moment newest old answered x.request x.response
+  pub helps : GrowsBeside seat 4 x.moment answered helped
+  pub tidies : GrowsBeside seat (4 + 2 * applied (state_of limits helped)) x.moment helped new
+
+-- The history goes from old to new while a seat serves these requests with these responses.
+abbrev pub Serves : Limits → ℕ → ℕ → History → History → List Exchange → Type 0
+Serves limits seat newest old new [] = new ≡ old
+Serves limits seat newest old new (x ∷ served) =
+    (mid : History) × Served limits seat newest old mid x × Serves limits seat (newest_after newest x.response) mid new served

@@ -1,0 +1,284 @@
+ghost use Rattle.std.specs.Prelude.{◌≡◌, ◌⊎◌, ℕ, ◌+◌, ◌*◌, ◌<◌, ◌≤◌, max, List, [], Option, Some, None, IfOk, IfSome, IfNone, OnOk, OnErr};
+ghost use Rattle.es_outside.specs.Told.{Rose};
+ghost use Rattle.http_wire.specs.Requests.{connection_limit};
+ghost use Rattle.http_wire.specs.Stream.{Wrote, WroteSome};
+ghost use Rattle.list_machine.specs.declared.event.Entry.{Entry};
+ghost use Rattle.list_machine.specs.Run.{state_of};
+ghost use Rattle.list_machine.specs.Serving.{GrowsBeside, applied};
+ghost use Rattle.es_rest.specs.Headline.{Headline};
+ghost use Rattle.es_rest.specs.Paths.{all_routes};
+ghost use Rattle.es_rest.specs.Whole.{ServesWhole};
+ghost use Rattle.reply_json.specs.Replies.{text};
+ghost use Rattle.es_rest.specs.Talk.{newest_after};
+ghost use Rattle.es_rest.specs.Turns.{Answered, Closed, Exchanged, LastGoesOn, WroteBy, words_text};
+
+use crate::converse::respond;
+use crate::paths::{Place, routes};
+use es_outside::{Clock, Link};
+use es_types::{Bytes, Moment, NoMemory};
+use http_wire::{Buf, Request, WireEnd, WriteFault, next_request, write_all};
+use list_machine::{Reply, Service, pages_in_turn};
+use matchit::Router;
+use reply_json::{Response, RestFault, no_memory_text, print};
+use std::alloc::Global;
+
+/// How a call that serves a connection ended.
+#[derive(Clone, Copy)]
+pub enum ConnEnd {
+    /// The input ended between two requests.
+    Done,
+    /// The next head is refused; its response was written.
+    Refused,
+    ReadFault,
+    WriteFault,
+    /// Memory was wanted while a request was read.
+    NoMemory,
+    /// The input ended inside a request.
+    Truncated,
+    /// 2^30 bytes were taken, and another one was there.
+    TooMuch,
+}
+
+// What a connection knows: the newest point in time of which it told, and its moment.
+#[derive(Clone, Copy)]
+struct Session {
+    newest: u64,
+    moment: Moment,
+}
+
+fn newest_after(newest: u64, response: &Response) -> u64
+    ensures { result ≡ newest_after newest response.now }
+{
+    match response {
+        Response::Json {
+            status: _,
+            reply: Reply::Opened { number },
+            route: _,
+        } => newest.max(*number),
+        _ => newest,
+    }
+}
+
+// What is written for a request, and the newest point in time that it tells of. No text is the one that memory
+// is wanting.
+#[derive(Drop)]
+struct Words {
+    newest: u64,
+    text: Option<Bytes>,
+}
+
+// The text of a response, and whether it could be made.
+fn words_of(alloc: Global, newest: u64, response: Response, last: bool) -> Words
+    ensures said { IfSome result.text (λ bytes. (bytes ≡ text response last) × (result.newest ≡ newest_after newest response)) }
+    ensures wanting { IfNone result.text (result.newest ≡ newest) }
+{
+    match print(alloc, &response, last) {
+        Ok(bytes) => Words {
+            newest: newest_after(newest, &response),
+            text: Some(bytes),
+        },
+        Err(_) => Words { newest, text: None },
+    }
+}
+
+// Answers a request, with the text of its response.
+fn answer<V: Service>(
+    alloc: Global,
+    service: &mut V,
+    router: &Router<Place>,
+    request: &Request,
+    newest: u64,
+    moment: Moment,
+) -> Words
+    requires { router.now ≡ all_routes }
+    ensures answered { Answered (V.limits service.old) (V.seat service.old) moment newest result.newest (V.front service.old) (V.front service.new)
+        request.now (words_text result.text request.now.last) }
+    ensures seat { V.seat service.new ≡ V.seat service.old }
+    ensures limits { V.limits service.new ≡ V.limits service.old }
+{
+    let response = respond(alloc, service, router, request, newest, moment);
+    words_of(alloc, newest, response, request.last)
+}
+
+fn write_words<L: Link>(link: &mut L, words: &Words, last: bool) -> Result<(), WriteFault>
+    ensures wrote { WroteBy (L.written link.old) (L.written link.new) (words_text words.now.text last) result }
+    ensures fault { OnErr result (Rose (L.write_faults link.old) (L.write_faults link.new)) }
+    ensures uncounted { OnOk result (L.write_faults link.new ≡ L.write_faults link.old) }
+    ensures count { L.write_faults link.old ≤ L.write_faults link.new }
+    ensures left { L.left link.new ≡ L.left link.old }
+    ensures read_faults { L.read_faults link.new ≡ L.read_faults link.old }
+    ensures held { L.held link.new ≡ L.held link.old }
+{
+    match &words.text {
+        Some(bytes) => write_all(link, bytes.as_slice()),
+        None => write_all(link, no_memory_text(last)),
+    }
+}
+
+// What goes with a request. It is left out where the response wasn't written, and want of memory in it is dropped.
+fn tidy_up<V: Service>(service: &mut V, moment: Moment, written: bool)
+    ensures helps { (helped : List Entry) × GrowsBeside (V.seat service.old) 4 moment (V.front service.old) helped
+        × GrowsBeside (V.seat service.old) (4 + 2 * applied (state_of (V.limits service.old) helped)) moment helped (V.front service.new) }
+    ensures seat { V.seat service.new ≡ V.seat service.old }
+    ensures limits { V.limits service.new ≡ V.limits service.old }
+{
+    if !written {
+        return;
+    }
+    let _ = service.help(moment);
+    let _ = service.tidy(moment);
+}
+
+// Serves one request.
+fn exchange<V: Service, L: Link, C: Clock>(
+    alloc: Global,
+    service: &mut V,
+    link: &mut L,
+    clock: &mut C,
+    router: &Router<Place>,
+    request: &Request,
+    session: &mut Session,
+) -> Result<(), WriteFault>
+    requires { router.now ≡ all_routes }
+    ensures exchanged { Exchanged (V.limits service.old) (V.seat service.old) session.old session.new (V.front service.old) (V.front service.new)
+        request.now (L.written link.old) (L.written link.new) result }
+    ensures seat { V.seat service.new ≡ V.seat service.old }
+    ensures limits { V.limits service.new ≡ V.limits service.old }
+    ensures later { session.old.moment ≤ session.new.moment }
+    ensures bounded { session.new.moment ≤ max session.old.moment (C.greatest clock.new) }
+    ensures greatest { C.greatest clock.old ≤ C.greatest clock.new }
+    ensures last { LastGoesOn (C.last clock.old) (C.last clock.new) session.old.moment session.new.moment }
+    ensures fault { OnErr result (Rose (L.write_faults link.old) (L.write_faults link.new)) }
+    ensures uncounted { OnOk result (L.write_faults link.new ≡ L.write_faults link.old) }
+    ensures count { L.write_faults link.old ≤ L.write_faults link.new }
+    ensures left { L.left link.new ≡ L.left link.old }
+    ensures read_faults { L.read_faults link.new ≡ L.read_faults link.old }
+    ensures held { L.held link.new ≡ L.held link.old }
+{
+    let moment = session.moment.later(clock.now(None));
+    let words = answer(alloc, service, router, request, session.newest, moment);
+    *session = Session {
+        newest: words.newest,
+        moment,
+    };
+    let written = write_words(link, &words, request.last);
+    tidy_up(service, moment, written.is_ok());
+    written
+}
+
+fn write_last<L: Link>(link: &mut L, words: &[u8], aim: ConnEnd) -> ConnEnd
+    ensures wrote { ((result ≡ aim) × Wrote (L.written link.old) (L.written link.new) words.now)
+        ⊎ ((result ≡ ConnEnd.WriteFault) × WroteSome (L.written link.old) (L.written link.new) words.now) }
+    ensures fault { result ≡ ConnEnd.WriteFault → (aim ≡ ConnEnd.WriteFault) ⊎ Rose (L.write_faults link.old) (L.write_faults link.new) }
+    ensures reported { L.write_faults link.old < L.write_faults link.new → result ≡ ConnEnd.WriteFault }
+    ensures count { L.write_faults link.old ≤ L.write_faults link.new }
+    ensures left { L.left link.new ≡ L.left link.old }
+    ensures read_faults { L.read_faults link.new ≡ L.read_faults link.old }
+    ensures held { L.held link.new ≡ L.held link.old }
+{
+    match write_all(link, words) {
+        Ok(()) => aim,
+        Err(_) => ConnEnd::WriteFault,
+    }
+}
+
+// Ends a connection: a refused head and want of memory have a response.
+fn close<L: Link>(alloc: Global, link: &mut L, end: WireEnd) -> ConnEnd
+    ensures closed { Closed (L.written link.old) (L.written link.new) end result }
+    ensures silent { end ≡ WireEnd.ReadFault → result ≡ ConnEnd.ReadFault }
+    ensures reported { L.write_faults link.old < L.write_faults link.new → result ≡ ConnEnd.WriteFault }
+    ensures fault { result ≡ ConnEnd.WriteFault → Rose (L.write_faults link.old) (L.write_faults link.new) }
+    ensures count { L.write_faults link.old ≤ L.write_faults link.new }
+    ensures left { L.left link.new ≡ L.left link.old }
+    ensures read_faults { L.read_faults link.new ≡ L.read_faults link.old }
+    ensures held { L.held link.new ≡ L.held link.old }
+{
+    match end {
+        WireEnd::Truncated => ConnEnd::Truncated,
+        WireEnd::ReadFault => ConnEnd::ReadFault,
+        WireEnd::TooMuch => ConnEnd::TooMuch,
+        WireEnd::NoMemory => write_last(link, no_memory_text(true), ConnEnd::NoMemory),
+        WireEnd::NotBuilt => match print(alloc, &Response::Fault(RestFault::NotBuilt), true) {
+            Ok(words) => write_last(link, words.as_slice(), ConnEnd::Refused),
+            Err(_) => write_last(link, no_memory_text(true), ConnEnd::NoMemory),
+        },
+    }
+}
+
+// The routes, and a buffer for what is read.
+fn start(alloc: Global) -> Result<(Router<Place>, Buf), NoMemory>
+    ensures routes { IfOk result (λ parts. parts.0 ≡ all_routes) }
+    ensures buf { IfOk result (λ parts. parts.1 ≡ record { bytes = []; room = connection_limit }) }
+{
+    let router = routes(alloc)?;
+    let buf = Buf::make(alloc)?;
+    Ok((router, buf))
+}
+
+// Serves the requests of a link until its end.
+fn serve_requests<V: Service, L: Link, C: Clock>(
+    alloc: Global,
+    service: &mut V,
+    link: &mut L,
+    clock: &mut C,
+) -> ConnEnd
+    ensures headline { Headline (V.limits service.old) (V.seat service.old) (V.front service.old) (V.front service.new)
+        (L.left link.old) (L.left link.new) (L.written link.old) (L.written link.new) (C.last clock.old) (C.greatest clock.new) result }
+    ensures read_fault { result ≡ ConnEnd.ReadFault → Rose (L.read_faults link.old) (L.read_faults link.new) }
+    ensures write_fault { result ≡ ConnEnd.WriteFault → Rose (L.write_faults link.old) (L.write_faults link.new) }
+    ensures read_reported { L.read_faults link.old < L.read_faults link.new → result ≡ ConnEnd.ReadFault }
+    ensures write_reported { L.write_faults link.old < L.write_faults link.new → result ≡ ConnEnd.WriteFault }
+    ensures seat { V.seat service.new ≡ V.seat service.old }
+    ensures limits { V.limits service.new ≡ V.limits service.old }
+    ensures held { L.held link.new ≡ L.held link.old }
+{
+    pages_in_turn();
+    let (router, mut buf) = match start(alloc) {
+        Ok(parts) => parts,
+        Err(_) => return close(alloc, link, WireEnd::NoMemory),
+    };
+    let mut session = Session {
+        newest: 0,
+        moment: Moment::zero(),
+    };
+    'requests: loop {
+        match next_request(alloc, link, &mut buf) {
+            Ok(Some(request)) => {
+                match exchange(alloc, service, link, clock, &router, &request, &mut session) {
+                    Ok(()) => {}
+                    Err(_) => return ConnEnd::WriteFault,
+                }
+            }
+            Ok(None) => return ConnEnd::Done,
+            Err(end) => return close(alloc, link, end),
+        }
+    }
+}
+
+/// Serves the requests of a link until its end: each request is read, answered by the service, and its response
+/// written. A fault of the link ends the call.
+pub fn serve_connection<V: Service, L: Link, C: Clock>(
+    alloc: Global,
+    service: &mut V,
+    link: &mut L,
+    clock: &mut C,
+) -> ConnEnd
+    // Each response is what a plain machine of one thread over lists answers at that request's place in one
+    // history; so pages taken in turn are a prefix of the sorted matching documents, and all of them at the end.
+    ensures headline { Headline (V.limits service.old) (V.seat service.old) (V.front service.old) (V.front service.new)
+        (L.left link.old) (L.left link.new) (L.written link.old) (L.written link.new) (C.last clock.old) (C.greatest clock.new) result }
+    // What is left, where it is whole requests, is answered wholly.
+    ensures complete { ServesWhole (V.limits service.old) (V.seat service.old) (V.front service.old) (V.front service.new)
+        (L.left link.old) (L.left link.new) (L.written link.old) (L.written link.new) (C.last clock.old) (C.greatest clock.new)
+        (L.read_faults link.old) (L.read_faults link.new) (L.write_faults link.old) (L.write_faults link.new) result }
+    // A fault is answered only where the count rose, and wherever it rose.
+    ensures read_fault { result ≡ ConnEnd.ReadFault → Rose (L.read_faults link.old) (L.read_faults link.new) }
+    ensures write_fault { result ≡ ConnEnd.WriteFault → Rose (L.write_faults link.old) (L.write_faults link.new) }
+    ensures read_reported { L.read_faults link.old < L.read_faults link.new → result ≡ ConnEnd.ReadFault }
+    ensures write_reported { L.write_faults link.old < L.write_faults link.new → result ≡ ConnEnd.WriteFault }
+    ensures seat { V.seat service.new ≡ V.seat service.old }
+    ensures limits { V.limits service.new ≡ V.limits service.old }
+    ensures held { L.held link.new ≡ L.held link.old }
+{
+    serve_requests(alloc, service, link, clock)
+}

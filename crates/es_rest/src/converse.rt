@@ -1,0 +1,310 @@
+ghost use Rattle.std.specs.Prelude.{◌≡◌, [], ◌∷◌, IfOk, MatchResult, if◌then◌else◌};
+ghost use Rattle.list_machine.specs.Serving.{IsAskable};
+ghost use Rattle.es_rest.specs.declared.ask.Ask.{Ask};
+ghost use Rattle.es_rest.specs.declared.ask.Ask.TheVariants as asks;
+ghost use Rattle.es_rest.specs.Led.{IsLabel};
+ghost use Rattle.es_rest.specs.Paths.{all_routes};
+ghost use Rattle.es_rest.specs.Route.{AsksSound};
+ghost use Rattle.es_rest.specs.Talk.{Conversation, Interrupted, Responds, settled, status_of};
+
+use crate::ask::{Ask, routed};
+use crate::bulk::bulk;
+use crate::paths::Place;
+use crate::refresh::{Refreshed, refresh_all, refresh_index, refusal};
+use doc_json::IndexSpec;
+use es_types::{Copied, DocId, IndexName, KeepAlive, Moment, NoMemory, Text};
+use http_wire::Request;
+use list_machine::{Change, Event, Reply, SearchRequest, Service, Target};
+use matchit::Router;
+use reply_json::{Response, RestFault, RouteName, id_text, wrote_status};
+use std::alloc::Global;
+
+// By what a request of one event is answered: the name that its refusal prints, its route, and the index that it
+// refreshes where it is taken.
+#[derive(Drop)]
+struct Label {
+    name: Text,
+    route: RouteName,
+    refreshed: Vec<IndexName>,
+}
+
+// The index, where a refresh is asked.
+fn refreshed_if(alloc: Global, refresh: bool, index: &IndexName) -> Result<Vec<IndexName>, NoMemory>
+    ensures { IfOk result (λ indexes. indexes.items ≡ (if refresh then index.now ∷ [] else [])) }
+{
+    let mut indexes = Vec::new(alloc);
+    if refresh {
+        indexes.push(index.copy(alloc)?)?;
+    }
+    Ok(indexes)
+}
+
+fn status_of(reply: &Reply) -> u16
+    ensures { result ≡ status_of reply.now }
+{
+    match reply {
+        Reply::Wrote { result, seq: _ } => wrote_status(*result),
+        _ => 200,
+    }
+}
+
+// What a reply on a route is answered, unless it was refused.
+fn settle(refused: Option<RestFault>, reply: Reply, route: RouteName) -> Response
+    ensures { result ≡ settled refused reply route }
+{
+    match refused {
+        Some(fault) => Response::Fault(fault),
+        None => Response::Json {
+            status: status_of(&reply),
+            reply,
+            route,
+        },
+    }
+}
+
+// Asks for the one event of a request, and for a refresh where it was taken.
+fn ask_one<V: Service>(
+    alloc: Global,
+    service: &mut V,
+    event: Event,
+    label: Label,
+    moment: Moment,
+) -> Result<Response, NoMemory>
+    requires { IsAskable (V.limits service.old) (V.front service.old) event }
+    ensures talk { (ask : Ask) → IsLabel ask event label.name label.route label.refreshed.items → MatchResult result
+        (Conversation (V.limits service.old) (V.seat service.old) moment ask (V.front service.old) (V.front service.new))
+        (λ _. Interrupted (V.limits service.old) (V.seat service.old) moment ask (V.front service.old) (V.front service.new)) }
+    ensures seat { V.seat service.new ≡ V.seat service.old }
+    ensures limits { V.limits service.new ≡ V.limits service.old }
+{
+    let reply = service.ask(event, moment)?;
+    match refusal(label.name, &reply) {
+        Some(fault) => return Ok(Response::Fault(fault)),
+        None => {}
+    }
+    let refused = refresh_all(alloc, service, &label.refreshed, moment)?;
+    Ok(settle(refused, reply, label.route))
+}
+
+fn create<V: Service>(
+    alloc: Global,
+    service: &mut V,
+    index: IndexName,
+    spec: IndexSpec,
+    moment: Moment,
+) -> Result<Response, NoMemory>
+    requires { AsksSound (asks.Create index spec) }
+    ensures talk { MatchResult result
+        (Conversation (V.limits service.old) (V.seat service.old) moment (asks.Create index spec) (V.front service.old) (V.front service.new))
+        (λ _. Interrupted (V.limits service.old) (V.seat service.old) moment (asks.Create index spec) (V.front service.old) (V.front service.new)) }
+    ensures seat { V.seat service.new ≡ V.seat service.old }
+    ensures limits { V.limits service.new ≡ V.limits service.old }
+{
+    let label = Label {
+        name: index.text().copy(alloc)?,
+        route: RouteName::Create {
+            index: index.copy(alloc)?,
+        },
+        refreshed: Vec::new(alloc),
+    };
+    let IndexSpec { shards, mapping } = spec;
+    let event = Event::Create {
+        index,
+        shards,
+        mapping,
+    };
+    ask_one(alloc, service, event, label, moment)
+}
+
+fn put_label(alloc: Global, index: &IndexName, id: &DocId, refresh: bool) -> Result<Label, NoMemory>
+    ensures name { IfOk result (λ label. label.name ≡ index.now) }
+    ensures route { IfOk result (λ label. label.route ≡ RouteName.Put index.now id.now) }
+    ensures refreshed { IfOk result (λ label. label.refreshed.items ≡ (if refresh then index.now ∷ [] else [])) }
+{
+    let refreshed = refreshed_if(alloc, refresh, index)?;
+    let name = index.text().copy(alloc)?;
+    let index = index.copy(alloc)?;
+    let id = id.copy(alloc)?;
+    Ok(Label {
+        name,
+        route: RouteName::Put { index, id },
+        refreshed,
+    })
+}
+
+fn remove_label(
+    alloc: Global,
+    index: &IndexName,
+    id: &DocId,
+    refresh: bool,
+) -> Result<Label, NoMemory>
+    ensures name { IfOk result (λ label. label.name ≡ index.now) }
+    ensures route { IfOk result (λ label. label.route ≡ RouteName.Remove index.now id.now) }
+    ensures refreshed { IfOk result (λ label. label.refreshed.items ≡ (if refresh then index.now ∷ [] else [])) }
+{
+    let refreshed = refreshed_if(alloc, refresh, index)?;
+    let name = index.text().copy(alloc)?;
+    let index = index.copy(alloc)?;
+    let id = id.copy(alloc)?;
+    Ok(Label {
+        name,
+        route: RouteName::Remove { index, id },
+        refreshed,
+    })
+}
+
+// Seals an index, and publishes what was sealed.
+fn refresh_route<V: Service>(
+    alloc: Global,
+    service: &mut V,
+    index: &IndexName,
+    moment: Moment,
+) -> Result<Response, NoMemory>
+    ensures talk { MatchResult result
+        (Conversation (V.limits service.old) (V.seat service.old) moment (asks.Refresh index.now) (V.front service.old) (V.front service.new))
+        (λ _. Interrupted (V.limits service.old) (V.seat service.old) moment (asks.Refresh index.now) (V.front service.old) (V.front service.new)) }
+    ensures seat { V.seat service.new ≡ V.seat service.old }
+    ensures limits { V.limits service.new ≡ V.limits service.old }
+{
+    let name = index.text().copy(alloc)?;
+    match refresh_index(alloc, service, index, moment)? {
+        Refreshed::All(numbers) => Ok(settle(None, Reply::Sealed(numbers), RouteName::Refresh)),
+        Refreshed::Ended(said) => {
+            let refused = refusal(name, &said);
+            Ok(settle(refused, said, RouteName::Refresh))
+        }
+    }
+}
+
+fn open_pit<V: Service>(
+    alloc: Global,
+    service: &mut V,
+    index: IndexName,
+    keep: KeepAlive,
+    moment: Moment,
+) -> Result<Response, NoMemory>
+    ensures talk { MatchResult result
+        (Conversation (V.limits service.old) (V.seat service.old) moment (asks.OpenPit index keep) (V.front service.old) (V.front service.new))
+        (λ _. Interrupted (V.limits service.old) (V.seat service.old) moment (asks.OpenPit index keep) (V.front service.old) (V.front service.new)) }
+    ensures seat { V.seat service.new ≡ V.seat service.old }
+    ensures limits { V.limits service.new ≡ V.limits service.old }
+{
+    let label = Label {
+        name: index.text().copy(alloc)?,
+        route: RouteName::OpenPit,
+        refreshed: Vec::new(alloc),
+    };
+    ask_one(
+        alloc,
+        service,
+        Event::OpenPit { index, keep },
+        label,
+        moment,
+    )
+}
+
+fn search<V: Service>(
+    alloc: Global,
+    service: &mut V,
+    target: Target,
+    request: SearchRequest,
+    moment: Moment,
+) -> Result<Response, NoMemory>
+    ensures talk { MatchResult result
+        (Conversation (V.limits service.old) (V.seat service.old) moment (asks.Search target request) (V.front service.old) (V.front service.new))
+        (λ _. Interrupted (V.limits service.old) (V.seat service.old) moment (asks.Search target request) (V.front service.old) (V.front service.new)) }
+    ensures seat { V.seat service.new ≡ V.seat service.old }
+    ensures limits { V.limits service.new ≡ V.limits service.old }
+{
+    let Target::Pit { number } = &target;
+    let label = Label {
+        name: id_text(alloc, *number)?,
+        route: RouteName::Search { pit: *number },
+        refreshed: Vec::new(alloc),
+    };
+    ask_one(
+        alloc,
+        service,
+        Event::Search { target, request },
+        label,
+        moment,
+    )
+}
+
+// Asks all that a request asks for, and answers it.
+fn converse<V: Service>(
+    alloc: Global,
+    service: &mut V,
+    ask: Ask,
+    moment: Moment,
+) -> Result<Response, NoMemory>
+    requires { AsksSound ask }
+    ensures talk { MatchResult result
+        (Conversation (V.limits service.old) (V.seat service.old) moment ask (V.front service.old) (V.front service.new))
+        (λ _. Interrupted (V.limits service.old) (V.seat service.old) moment ask (V.front service.old) (V.front service.new)) }
+    ensures seat { V.seat service.new ≡ V.seat service.old }
+    ensures limits { V.limits service.new ≡ V.limits service.old }
+{
+    match ask {
+        Ask::Create { index, spec } => create(alloc, service, index, spec, moment),
+        Ask::Put {
+            index,
+            id,
+            doc,
+            refresh,
+        } => {
+            let label = put_label(alloc, &index, &id, refresh)?;
+            let change = Change::Put(doc);
+            ask_one(
+                alloc,
+                service,
+                Event::Write { index, id, change },
+                label,
+                moment,
+            )
+        }
+        Ask::Remove { index, id, refresh } => {
+            let label = remove_label(alloc, &index, &id, refresh)?;
+            let change = Change::Remove;
+            ask_one(
+                alloc,
+                service,
+                Event::Write { index, id, change },
+                label,
+                moment,
+            )
+        }
+        Ask::Bulk {
+            index,
+            body,
+            refresh,
+        } => bulk(alloc, service, index, body, refresh, moment),
+        Ask::Refresh { index } => refresh_route(alloc, service, &index, moment),
+        Ask::OpenPit { index, keep } => open_pit(alloc, service, index, keep, moment),
+        Ask::Search { target, request } => search(alloc, service, target, request, moment),
+    }
+}
+
+/// Answers a request: it asks the service for the events of the request, all at the moment. Want of memory is a
+/// response too. The routes are all that are built. Points in time up to the number `newest` were opened.
+pub fn respond<V: Service>(
+    alloc: Global,
+    service: &mut V,
+    router: &Router<Place>,
+    request: &Request,
+    newest: u64,
+    moment: Moment,
+) -> Response
+    requires { router.now ≡ all_routes }
+    ensures responds { Responds (V.limits service.old) (V.seat service.old) moment newest (V.front service.old) (V.front service.new) request.now result }
+    ensures seat { V.seat service.new ≡ V.seat service.old }
+    ensures limits { V.limits service.new ≡ V.limits service.old }
+{
+    match routed(alloc, router, newest, request) {
+        Ok(ask) => match converse(alloc, service, ask, moment) {
+            Ok(response) => response,
+            Err(_) => Response::Fault(RestFault::NoMemory),
+        },
+        Err(fault) => Response::Fault(fault),
+    }
+}

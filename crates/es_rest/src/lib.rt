@@ -1,0 +1,17 @@
+//! Requests and their responses: what a request asks for, the events that this takes, and one connection after the
+//! other (Elasticsearch's reference pages for documents, bulks, refreshes, points in time and searches).
+#![tactic(auto)]
+
+mod ask;
+mod body;
+mod bulk;
+mod connection;
+mod converse;
+mod ids;
+mod items;
+mod params;
+mod paths;
+mod refresh;
+
+pub use ask::{Ask, route};
+pub use connection::{ConnEnd, serve_connection};

@@ -1,0 +1,42 @@
+ghost use Rattle.std.specs.Prelude.{◌≡◌};
+ghost use Rattle.reply_json.specs.declared.fault.RestFault.TheVariants.{NoMemory};
+
+use es_types::{DocFault, LimitName, Text};
+use std::alloc::AllocError;
+
+/// Why a request is refused. Each has a status of RFC 9110, and a type that is named as Elasticsearch names exceptions.
+#[derive(Drop)]
+pub enum RestFault {
+    /// A form that isn't built yet.
+    NotBuilt,
+    /// The parameter of that name has a value that it cannot have, is missing, or is none of its route.
+    BadParam(Text),
+    /// A body that is none of its route, as a document that is no JSON object.
+    BadBody,
+    /// A limit that the request breaks.
+    Limit(LimitName),
+    /// The history has as many entries as it may have.
+    Spent,
+    /// There is no index of that name.
+    NoIndex(Text),
+    /// An index of that name is there.
+    Exists(Text),
+    /// The document has a value that is none of its field.
+    BadDoc(DocFault),
+    /// No context of that id is live.
+    NoContext(Text),
+    /// As many contexts as may be are live; the number is how many.
+    TooMany(u64),
+    /// The shard has as many documents and operations as it may have.
+    ShardFull,
+    /// Memory ran out.
+    NoMemory,
+}
+
+impl From<AllocError> for RestFault {
+    ghost from_gives = { λ _ fault. fault ≡ NoMemory };
+
+    fn from(_: AllocError) -> RestFault {
+        RestFault::NoMemory
+    }
+}
