@@ -9,6 +9,11 @@ import time
 TOP = os.path.dirname(os.path.dirname(os.path.abspath(__file__)))
 PROGRAM = [os.path.join(TOP, "bin", "es_node"), "replay"]
 MIB = 1 << 20
+TERM = b'{"term":{"k":"k7"}}'
+RANGE = b'{"range":{"n":{"gte":4000,"lt":4100}}}'
+BOOL = b'{"bool":{"must":[{"term":{"k":"k7"}},{"range":{"n":{"gte":2000}}}],"must_not":{"range":{"n":{"gte":9000}}}}}'
+ONE_SHARD = b'{"bool":{"filter":[{"term":{"s":3}},{"range":{"n":{"lt":100}}}]}}'
+NO_SHARD = b'{"term":{"n":10000}}'
 
 
 def request(line, *body):
@@ -79,6 +84,39 @@ def many_shards(rounds):
         yield from request(b"PUT /s/_doc/d%d?refresh" % number, b"{}")
 
 
+def searched(count, query):
+    """So many searches for 10 of 10,000 documents in 5 shards. The field `n` rises, `k` has 100 keywords, and `s` is the shard."""
+    fields = b'"n":{"type":"long"},"k":{"type":"keyword"},"s":{"type":"long"}'
+    yield from request(b"PUT /t", b'{"settings":{"number_of_shards":5},"mappings":{"properties":{%s}}}' % fields)
+    lines = b"".join(
+        b'{"index":{"_id":"d%d"}}\n{"n":%d,"k":"k%d","s":%d}\n' % (n, n, n % 100, shard_of(b"d%d" % n, 5)) for n in range(10000)
+    )
+    yield from request(b"POST /t/_bulk?refresh", lines)
+    for _ in range(count):
+        yield from request(b"POST /t/_search", b'{"query":', query, b"}")
+
+
+def shard_of(name, shards):
+    """FNV-1a in 32 bits."""
+    h = 2166136261
+    for byte in name:
+        h = (h ^ byte) * 16777619 % (1 << 32)
+    return h % shards
+
+
+def many_terms(size):
+    """A search of an empty index for about that many bytes of terms, of which one has to match."""
+    term = b'{"term":{"k":"abcdefghijklmnopqrstuvwxyz"}}'
+    count = size // (len(term) + 1)
+    head, tail = b'{"query":{"bool":{"should":[', b"]}}}"
+    length = len(head) + count * (len(term) + 1) - 1 + len(tail)
+    yield b"POST /docs/_search HTTP/1.1\r\ncontent-length: %d\r\n\r\n" % length
+    yield head
+    for number in range(count):
+        yield term if number == 0 else b"," + term
+    yield tail
+
+
 def served(sink):
     """How many responses of a good status there are, read in pieces, since a bulk's response is one long line."""
     mark, count, rest = b"HTTP/1.1 20", 0, b""
@@ -140,6 +178,14 @@ def main():
         ("1,000,000 members, 1,000 fields", many_members(1000000)),
         ("100 refreshes of 1,024 shards", many_shards(100)),
         ("400 refreshes of 1,024 shards", many_shards(400)),
+        ("a query of 25 MB", many_terms(25000000)),
+        ("a query of 100 MB", many_terms(100000000)),
+        ("no search", searched(0, b"")),
+        ("2,000 searches, term", searched(2000, TERM)),
+        ("2,000 searches, range", searched(2000, RANGE)),
+        ("2,000 searches, bool", searched(2000, BOOL)),
+        ("2,000 searches, one shard", searched(2000, ONE_SHARD)),
+        ("2,000 searches, no shard", searched(2000, NO_SHARD)),
         ("1,000 documents", many_documents(1000)),
         ("4,000 documents", many_documents(4000)),
     ))
@@ -150,6 +196,7 @@ def main():
         ("bulk of 16 MiB, 4 KB each", "bulk of 64 MiB, 4 KB each"),
         ("bulk of 16 MiB, 40 bytes each", "bulk of 64 MiB, 40 bytes each"),
         ("20,000 small puts", "80,000 small puts"),
+        ("a query of 25 MB", "a query of 100 MB"),
     ):
         longer = found[large][1] / found[small][1]
         print("%s: %.2f times as long as %s (at most 5)" % (large, longer, small))
@@ -158,6 +205,9 @@ def main():
         memory = found[name][2] / (64 * MIB)
         print("%s: %.2f times the body in memory (at most 8)" % (name, memory))
         failed = failed or memory > 8
+    for name in ("term", "range", "bool", "one shard", "no shard"):
+        seconds = found["2,000 searches, " + name][1] - found["no search"][1]
+        print("%s: %d searches a second" % (name, 2000 / seconds))
     print("20,000 small puts: %d requests a second" % (20000 / found["20,000 small puts"][1]))
     sys.exit(failed)
 

@@ -35,7 +35,8 @@ pub fn read_index(alloc: Global, body: &[u8]) -> Result<IndexSpec, Fail<BodyFaul
     }
 }
 
-fn filled(body: &[u8]) -> &[u8]
+/// A body, where an empty one counts as `{}`.
+pub fn filled(body: &[u8]) -> &[u8]
     ensures { result.now ≡ filled body.now }
 {
     if body.is_empty() { b"{}" } else { body }

@@ -64,7 +64,7 @@ pub fn read_data(alloc: Global, bytes: &[u8]) -> Result<Option<Value>, NoMemory>
 }
 
 /// Whether a value is an object that has no members but those of these names, which differ.
-pub(crate) fn is_form(value: &Value, names: &[&str]) -> bool
+pub fn is_form(value: &Value, names: &[&str]) -> bool
     ensures { result ≡ is_form (map (λ name. name.now) names.now) (view value.now) }
 {
     match value.as_object() {

@@ -1,5 +1,8 @@
 //! The calls of `es_types` on mappings, documents and shards.
-use crate::values::{bytes, copies, text};
+ghost use Rattle.std.specs.Prelude.{IfOk};
+ghost use Rattle.list_machine.specs.Objects.{IsObject};
+
+use crate::values::{braces, copies, text};
 use es_types::{
     Doc, DocCause, DocId, DocValue, Fail as Failure, Field, FieldKind, FieldName, Items, Mapping,
     Member, Value, fit_doc, shard_of,
@@ -7,15 +10,6 @@ use es_types::{
 use std::alloc::Global;
 use std::process::Abort;
 use std::test::Fail;
-
-// What a document has at a member.
-#[derive(Clone, Copy)]
-enum Given {
-    Key(&'static str),
-    Long(i64),
-    Null,
-    Other,
-}
 
 fn field(alloc: Global, name: &str, kind: FieldKind) -> Result<Field, Fail> {
     Ok(Field {
@@ -34,74 +28,110 @@ pub(crate) fn mapping_of_n(alloc: Global) -> Result<Mapping, Fail> {
     )
 }
 
-// The text of what a document with these members gives the fields.
-fn fitted(
-    alloc: Global,
-    mapping: &Mapping,
-    given: &[(&'static str, Given)],
-) -> Result<String, Fail> {
-    let mut members = Vec::new(alloc);
-    for (name, value) in given {
-        let value = match value {
-            Given::Key(key) => DocValue::Key(text(alloc, key)?),
-            Given::Long(number) => DocValue::Long(*number),
-            Given::Null => DocValue::Null,
-            Given::Other => DocValue::Other,
-        };
-        members.push(Member {
-            name: text(alloc, name)?,
-            value,
-        })?;
-    }
-    let doc = Doc {
-        source: bytes(alloc, b"{}")?,
-        members: Items::of(members),
+// A member, as `n=5`: a whole number, `null`, `{}` for what no field takes, or else a text.
+fn member(alloc: Global, given: &str) -> Result<Member, Fail> {
+    let (name, value) = given.split_once('=').ok_or("a member")?;
+    let value = match value {
+        "null" => DocValue::Null,
+        "{}" => DocValue::Other,
+        _ => match value.parse::<i64>() {
+            Ok(number) => DocValue::Long(number),
+            Err(_) => DocValue::Key(text(alloc, value)?),
+        },
     };
-    let values = match fit_doc(alloc, mapping, &doc) {
-        Ok(values) => values,
-        Err(Failure::Is(fault)) => {
-            let cause = match fault.cause {
-                DocCause::Kind => "kind",
-                DocCause::TooLong => "long",
-            };
-            return Ok(format!(in alloc; "{cause} {}", fault.field)?);
-        }
-        Err(Failure::NoMemory) => return Ok(String::from_str(alloc, "no memory")?),
-    };
-    let mut found = String::new(alloc);
-    for value in values.as_slice() {
-        let shown = match value {
-            Value::Key(key) => format!(in alloc; "[{}]", key.as_str())?,
-            Value::Long(number) => format!(in alloc; "[{number}]")?,
-            Value::Missing => String::from_str(alloc, "[]")?,
-        };
-        found.push_str(&shown)?;
-    }
-    Ok(found)
+    let name = text(alloc, name)?;
+    Ok(Member { name, value })
 }
 
-// A document with these members has to give the fields this.
-fn gives(
-    rt: &impl Abort,
-    alloc: Global,
-    mapping: &Mapping,
-    given: &[(&'static str, Given)],
-    want: &str,
-) -> Result<(), Fail> {
-    let found = fitted(alloc, mapping, given)?;
-    assert_eq!(rt; found.as_str(), want);
+fn members(alloc: Global, given: &str) -> Result<Items<Member>, Fail> {
+    let mut members = Vec::new(alloc);
+    for given in given.split(' ') {
+        if !given.is_empty() {
+            members.push(member(alloc, given)?)?;
+        }
+    }
+    Ok(Items::of(members))
+}
+
+// A document with these members, which stand in a line.
+pub(crate) fn document(alloc: Global, given: &str) -> Result<Doc, Fail>
+    ensures { IfOk result (λ doc. IsObject doc.source) }
+{
+    let members = members(alloc, given)?;
+    let source = braces(alloc)?;
+    Ok(Doc { source, members })
+}
+
+// Pushes each value in brackets.
+fn push_values(alloc: Global, out: &mut String, values: &[Value]) -> Result<(), Fail> {
+    for value in values {
+        match value {
+            Value::Key(key) => out.push_str(&format!(in alloc; "[{}]", key.as_str())?)?,
+            Value::Long(number) => out.push_str(&format!(in alloc; "[{number}]")?)?,
+            Value::Missing => out.push_str("[]")?,
+        }
+    }
     Ok(())
 }
+
+pub(crate) fn cause(cause: DocCause) -> &'static str {
+    match cause {
+        DocCause::Kind => "kind",
+        DocCause::TooLong => "long",
+    }
+}
+
+// Pushes what a document with these members gives the fields.
+fn push_fitted(
+    alloc: Global,
+    out: &mut String,
+    mapping: &Mapping,
+    given: &str,
+) -> Result<(), Fail> {
+    let doc = document(alloc, given)?;
+    match fit_doc(alloc, mapping, &doc) {
+        Ok(values) => push_values(alloc, out, values.as_slice())?,
+        Err(Failure::Is(fault)) => {
+            let cause = cause(fault.cause);
+            out.push_str(&format!(in alloc; "{cause} {}", fault.field)?)?;
+        }
+        Err(Failure::NoMemory) => out.push_str("no memory")?,
+    }
+    Ok(())
+}
+
+// A line has the members of a document, and what they have to give the fields.
+fn gives(rt: &impl Abort, alloc: Global, mapping: &Mapping, lines: &str) -> Result<(), Fail> {
+    let mut found = String::new(alloc);
+    for line in lines.lines() {
+        let (given, want) = line.split_once("-> ").ok_or("values")?;
+        found.clear();
+        push_fitted(alloc, &mut found, mapping, given)?;
+        assert_eq!(rt; found.as_str(), want, "of {given}");
+    }
+    Ok(())
+}
+
+const ON_ONE_FIELD: &str = "\
+n=5 -> [5]
+n=x -> kind 0
+-> []
+";
 
 #[test]
 fn a_document_on_one_field(rt: HostRuntime) -> Result<(), Fail> {
     let alloc = rt.alloc();
     let n = mapping_of_n(alloc)?;
-    gives(&rt, alloc, &n, &[("n", Given::Long(5))], "[5]")?;
-    gives(&rt, alloc, &n, &[("n", Given::Key("x"))], "kind 0")?;
-    gives(&rt, alloc, &n, &[], "[]")?;
-    Ok(())
+    gives(&rt, alloc, &n, ON_ONE_FIELD)
 }
+
+const ON_TWO_FIELDS: &str = "\
+tag=x n=-5 -> [-5][x]
+n=null N={} -> [][]
+tag={} -> kind 1
+n=1 n={} -> [1][]
+tag=null n={} -> kind 0
+";
 
 #[test]
 fn a_document_on_two_fields(rt: HostRuntime) -> Result<(), Fail> {
@@ -111,35 +141,11 @@ fn a_document_on_two_fields(rt: HostRuntime) -> Result<(), Fail> {
     let both = Mapping::make(Items::of(vec![in alloc; n, tag]?))
         .ok()
         .ok_or("a mapping")?;
-    let x = ("tag", Given::Key("x"));
-    gives(&rt, alloc, &both, &[x, ("n", Given::Long(-5))], "[-5][x]")?;
-    gives(
-        &rt,
-        alloc,
-        &both,
-        &[("n", Given::Null), ("N", Given::Other)],
-        "[][]",
-    )?;
-    gives(&rt, alloc, &both, &[("tag", Given::Other)], "kind 1")?;
-    gives(
-        &rt,
-        alloc,
-        &both,
-        &[("n", Given::Long(1)), ("n", Given::Other)],
-        "[1][]",
-    )?;
-    gives(
-        &rt,
-        alloc,
-        &both,
-        &[("tag", Given::Null), ("n", Given::Other)],
-        "kind 0",
-    )?;
-    Ok(())
+    gives(&rt, alloc, &both, ON_TWO_FIELDS)
 }
 
 #[test]
-fn mappings(rt: HostRuntime) -> Result<(), Fail> {
+fn copies_of_mappings(rt: HostRuntime) -> Result<(), Fail> {
     let alloc = rt.alloc();
     assert!(rt; Mapping::empty(alloc).fields().is_empty());
     let n = mapping_of_n(alloc)?;
@@ -148,22 +154,27 @@ fn mappings(rt: HostRuntime) -> Result<(), Fail> {
         assert!(rt; copies(alloc, field));
         assert!(rt; copies(alloc, &field.kind));
     }
-    for (names, made) in [
-        (["a", "b"], true),
-        (["b", "a"], false),
-        (["a", "a"], false),
-        (["B", "a"], true),
-        (["a", "aa"], true),
+    Ok(())
+}
+
+// Whether a mapping can have these two fields, in this order.
+fn makes(alloc: Global, one: &str, other: &str) -> Result<bool, Fail> {
+    let one = field(alloc, one, FieldKind::Key)?;
+    let other = field(alloc, other, FieldKind::Long)?;
+    Ok(Mapping::make(Items::of(vec![in alloc; one, other]?)).is_ok())
+}
+
+#[test]
+fn orders_of_fields(rt: HostRuntime) -> Result<(), Fail> {
+    for (one, other, made) in [
+        ("a", "b", true),
+        ("b", "a", false),
+        ("a", "a", false),
+        ("B", "a", true),
+        ("a", "aa", true),
     ] {
-        let one = field(alloc, names[0], FieldKind::Key)?;
-        let other = field(alloc, names[1], FieldKind::Long)?;
-        let mapping = Mapping::make(Items::of(vec![in alloc; one, other]?));
-        assert!(rt;
-            mapping.is_ok() == made,
-            "fields {} and {}",
-            names[0],
-            names[1]
-        );
+        let found = makes(rt.alloc(), one, other)?;
+        assert!(rt; found == made, "fields {one} and {other}");
     }
     Ok(())
 }

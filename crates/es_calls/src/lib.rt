@@ -8,6 +8,8 @@ mod machine;
 #[cfg(test)]
 mod outside;
 #[cfg(test)]
+mod queries;
+#[cfg(test)]
 mod values;
 #[cfg(test)]
 mod wire;

@@ -1,42 +1,38 @@
 //! The calls of `list_machine` and `es_core`: both give the same replies to the same events.
-ghost use Rattle.std.specs.Prelude.{◌<◌, ◌≤◌, length, vec_len, IfOk};
-ghost use Rattle.list_machine.specs.Objects.{IsObject};
+ghost use Rattle.std.specs.Prelude.{◌≡◌, ◌+◌, ◌<◌, ◌≤◌, ◌^◌, vec_len, IfOk, OnOk};
 ghost use Rattle.list_machine.specs.Run.{CreatesSome, PutsObject};
 
-use crate::fields::mapping_of_n;
-use crate::values::text;
+use crate::fields::{cause, document, mapping_of_n};
+use crate::values::{braces, text};
 use es_core::{Brought, Core, Turned};
-use es_types::{
-    Bytes, Doc, DocCause, DocId, DocValue, IndexName, Items, KeepAlive, Member, Moment, NoMemory,
-    Op, Row, Value,
-};
+use es_query::Query;
+use es_types::{DocId, IndexName, Items, KeepAlive, Moment, NoMemory, Op, Row, Value};
 use list_machine::{
     Answer, Change, ContextStore, Entry, Event, Limits, Machine, Reply, SearchRequest, Target,
-    Wrote, answer, apply_ops, docs, pages_in_turn, sound_states,
+    Wrote, apply_ops, docs, pages_in_turn, search_context, sound_states,
 };
 use std::alloc::Global;
 use std::process::Abort;
 use std::test::Fail;
 
-// The member `n` of a document.
-#[derive(Clone, Copy)]
-enum N {
-    Absent,
-    Long(i64),
-    Key(&'static str),
+// A word of a line, counted from 0. It is empty where the line has no such word.
+fn word(line: &str, at: usize) -> &str {
+    let mut left = at;
+    for word in line.split(' ') {
+        if left == 0 {
+            return word;
+        }
+        left -= 1;
+    }
+    ""
 }
 
-// What a history asks for. An index is made with five shards and the whole number `n`.
-#[derive(Clone, Copy)]
-enum Ask {
-    Create(&'static str),
-    Put(&'static str, &'static str, N),
-    Remove(&'static str, &'static str),
-    Publish(&'static str, u32, u64),
-    Open(&'static str),
-    Search(u64, Option<i64>),
-    Seal(&'static str),
-    Quiet,
+fn number(line: &str, at: usize) -> Result<u64, Fail> {
+    Ok(word(line, at).parse::<u64>().ok().ok_or("a number")?)
+}
+
+fn moment(line: &str) -> Result<Moment, Fail> {
+    Ok(Moment::make(number(line, 0)?).ok_or("a moment")?)
 }
 
 fn index(alloc: Global, name: &str) -> Result<IndexName, Fail> {
@@ -47,28 +43,11 @@ fn doc_id(alloc: Global, id: &str) -> Result<DocId, Fail> {
     Ok(DocId::make(text(alloc, id)?).ok().ok_or("an id")?)
 }
 
-// The object without members.
-fn braces(alloc: Global) -> Result<Bytes, NoMemory>
-    ensures { IfOk result IsObject }
-{
-    Ok(Bytes::of(Vec::from_slice(alloc, b"{}")?))
-}
-
-fn members(alloc: Global, n: N) -> Result<Items<Member>, Fail> {
-    let value = match n {
-        N::Absent => return Ok(Items::of(Vec::new(alloc))),
-        N::Long(number) => DocValue::Long(number),
-        N::Key(key) => DocValue::Key(text(alloc, key)?),
-    };
-    let name = text(alloc, "n")?;
-    Ok(Items::of(vec![in alloc; Member { name, value }]?))
-}
-
-fn create(alloc: Global, name: &str) -> Result<Event, Fail>
+fn create(alloc: Global, line: &str) -> Result<Event, Fail>
     ensures object { IfOk result PutsObject }
     ensures creates { IfOk result CreatesSome }
 {
-    let index = index(alloc, name)?;
+    let index = index(alloc, word(line, 2))?;
     let mapping = mapping_of_n(alloc)?;
     Ok(Event::Create {
         index,
@@ -77,21 +56,13 @@ fn create(alloc: Global, name: &str) -> Result<Event, Fail>
     })
 }
 
-fn doc(alloc: Global, n: N) -> Result<Doc, Fail>
-    ensures { IfOk result (λ doc. IsObject doc.source) }
-{
-    let members = members(alloc, n)?;
-    let source = braces(alloc)?;
-    Ok(Doc { source, members })
-}
-
-fn put(alloc: Global, name: &str, id: &str, n: N) -> Result<Event, Fail>
+fn put(alloc: Global, line: &str) -> Result<Event, Fail>
     ensures object { IfOk result PutsObject }
     ensures creates { IfOk result CreatesSome }
 {
-    let doc = doc(alloc, n)?;
-    let index = index(alloc, name)?;
-    let id = doc_id(alloc, id)?;
+    let doc = document(alloc, word(line, 4))?;
+    let index = index(alloc, word(line, 2))?;
+    let id = doc_id(alloc, word(line, 3))?;
     Ok(Event::Write {
         index,
         id,
@@ -99,12 +70,12 @@ fn put(alloc: Global, name: &str, id: &str, n: N) -> Result<Event, Fail>
     })
 }
 
-fn remove(alloc: Global, name: &str, id: &str) -> Result<Event, Fail>
+fn remove(alloc: Global, line: &str) -> Result<Event, Fail>
     ensures object { IfOk result PutsObject }
     ensures creates { IfOk result CreatesSome }
 {
-    let index = index(alloc, name)?;
-    let id = doc_id(alloc, id)?;
+    let index = index(alloc, word(line, 2))?;
+    let id = doc_id(alloc, word(line, 3))?;
     Ok(Event::Write {
         index,
         id,
@@ -112,68 +83,99 @@ fn remove(alloc: Global, name: &str, id: &str) -> Result<Event, Fail>
     })
 }
 
-fn publish(alloc: Global, name: &str, shard: u32, upto: u64) -> Result<Event, Fail>
+fn publish(alloc: Global, line: &str) -> Result<Event, Fail>
     ensures object { IfOk result PutsObject }
     ensures creates { IfOk result CreatesSome }
 {
-    let index = index(alloc, name)?;
+    let shard = word(line, 3).parse::<u32>().ok().ok_or("a shard")?;
+    let upto = number(line, 4)?;
+    let index = index(alloc, word(line, 2))?;
     Ok(Event::Publish { index, shard, upto })
 }
 
-fn open(alloc: Global, name: &str) -> Result<Event, Fail>
+fn search(line: &str) -> Result<Event, Fail>
     ensures object { IfOk result PutsObject }
     ensures creates { IfOk result CreatesSome }
 {
-    let index = index(alloc, name)?;
-    let keep = KeepAlive::minute();
-    Ok(Event::OpenPit { index, keep })
-}
-
-fn seal(alloc: Global, name: &str) -> Result<Event, Fail>
-    ensures object { IfOk result PutsObject }
-    ensures creates { IfOk result CreatesSome }
-{
-    let index = index(alloc, name)?;
-    Ok(Event::Seal { index })
-}
-
-fn search(number: u64, after: Option<i64>) -> Event
-    ensures object { PutsObject result }
-    ensures creates { CreatesSome result }
-{
-    Event::Search {
+    let number = number(line, 2)?;
+    let after = match word(line, 3) {
+        "" => None,
+        place => Some(place.parse::<i64>().ok().ok_or("a place")?),
+    };
+    Ok(Event::Search {
         target: Target::Pit { number },
-        request: SearchRequest { size: 2, after },
-    }
+        request: SearchRequest {
+            query: Query::All,
+            show_place: true,
+            size: 2,
+            after,
+        },
+    })
 }
 
-fn event(alloc: Global, ask: Ask) -> Result<Event, Fail>
+// A search of an index for one value of a field.
+fn find(alloc: Global, line: &str) -> Result<Event, Fail>
     ensures object { IfOk result PutsObject }
     ensures creates { IfOk result CreatesSome }
 {
-    match ask {
-        Ask::Create(name) => create(alloc, name),
-        Ask::Put(name, id, n) => put(alloc, name, id, n),
-        Ask::Remove(name, id) => remove(alloc, name, id),
-        Ask::Publish(name, shard, upto) => publish(alloc, name, shard, upto),
-        Ask::Open(name) => open(alloc, name),
-        Ask::Search(number, after) => Ok(search(number, after)),
-        Ask::Seal(name) => seal(alloc, name),
-        Ask::Quiet => Ok(Event::Quiet),
+    let index = index(alloc, word(line, 2))?;
+    let field = text(alloc, word(line, 3))?;
+    let value = match word(line, 4).parse::<i64>() {
+        Ok(number) => Value::Long(number),
+        Err(_) => Value::Key(text(alloc, word(line, 4))?),
+    };
+    Ok(Event::Search {
+        target: Target::Index(index),
+        request: SearchRequest {
+            query: Query::Term { field, value },
+            show_place: false,
+            size: 2,
+            after: None,
+        },
+    })
+}
+
+// What a line asks for, behind its milliseconds. An index is made with five shards and the whole number `n`, and a
+// search is for two documents, behind a place where it has one:
+// create INDEX, put INDEX ID [n=N], remove INDEX ID, publish INDEX SHARD UPTO, open INDEX, search PIT [PLACE],
+// find INDEX FIELD VALUE, seal INDEX, quiet
+fn event(alloc: Global, line: &str) -> Result<Event, Fail>
+    ensures object { IfOk result PutsObject }
+    ensures creates { IfOk result CreatesSome }
+{
+    match word(line, 1) {
+        "create" => create(alloc, line),
+        "put" => put(alloc, line),
+        "remove" => remove(alloc, line),
+        "publish" => publish(alloc, line),
+        "open" => Ok(Event::OpenPit {
+            index: index(alloc, word(line, 2))?,
+            keep: KeepAlive::minute(),
+        }),
+        "search" => search(line),
+        "find" => find(alloc, line),
+        "seal" => Ok(Event::Seal {
+            index: index(alloc, word(line, 2))?,
+        }),
+        "quiet" => Ok(Event::Quiet),
+        _ => Err("an event")?,
     }
 }
 
-// How many documents match, and then each hit with the place that it shows.
+// How many documents match, then each hit with the place that it shows, and how many shards were skipped.
 fn page_text(alloc: Global, answer: &Answer) -> Result<String, Fail> {
     let mut text = format!(in alloc; "{} of {}", answer.hits.as_slice().len(), answer.total)?;
     for hit in answer.hits.as_slice() {
         let index = hit.index.text().as_str();
         let id = hit.id.text().as_str();
-        let place = match hit.shown.as_slice() {
-            [Value::Long(place)] => *place,
-            _ => -1,
-        };
-        text.push_str(&format!(in alloc; " {index} {id} {place}")?)?;
+        text.push_str(&format!(in alloc; " {index} {id}")?)?;
+        if let [Value::Long(place)] = hit.shown.as_slice() {
+            text.push_str(&format!(in alloc; " {place}")?)?;
+        }
+    }
+    let counts = &answer.counts;
+    if counts.skipped > 0 {
+        text.push_str(&format!(in alloc; " skipped {} of {}", counts.skipped, counts.total)?)?;
     }
     Ok(text)
 }
@@ -198,127 +200,157 @@ fn reply_text(alloc: Global, reply: &Reply) -> Result<String, Fail> {
         Reply::Exists => String::from_str(alloc, "exists")?,
         Reply::Missing => String::from_str(alloc, "missing")?,
         Reply::BadDoc(fault) => {
-            let cause = match fault.cause {
-                DocCause::Kind => "kind",
-                DocCause::TooLong => "long",
-            };
+            let cause = cause(fault.cause);
             format!(in alloc; "{cause} {}", fault.field)?
         }
+        Reply::BadQuery => String::from_str(alloc, "bad query")?,
         Reply::TooMany { limit } => format!(in alloc; "too many {limit}")?,
         Reply::ShardFull => String::from_str(alloc, "shard full")?,
     })
 }
 
-// Plays a history from the start, on the machine and on the core. Each step, at these milliseconds, has to have this
-// reply of both.
-fn plays(rt: &impl Abort, alloc: Global, history: &[(u64, Ask, &str)]) -> Result<(), Fail>
-    requires { length history.now < 100 }
+// The drop of a reply stands here alone, since a proof has it again at each return of a function that owns one.
+fn said(alloc: Global, reply: Reply) -> Result<String, Fail> {
+    reply_text(alloc, &reply)
+}
+
+// Each step is one entry.
+fn take_step(machine: &mut Machine, entry: &Entry) -> Result<Reply, NoMemory>
+    requires early { machine.old.entries < 2 ^ 53 }
+    requires creates { CreatesSome entry.now.event }
+    ensures { OnOk result (machine.new.entries ≡ machine.old.entries + 1) }
 {
+    machine.step(entry)
+}
+
+fn ask_machine(alloc: Global, machine: &mut Machine, asked: &str) -> Result<Reply, Fail>
+    requires { machine.old.entries < 2 ^ 53 }
+    ensures { OnOk result (machine.new.entries ≡ machine.old.entries + 1) }
+{
+    let entry = Entry {
+        who: 0,
+        moment: moment(asked)?,
+        event: event(alloc, asked)?,
+    };
+    Ok(take_step(machine, &entry)?)
+}
+
+fn ask_core(alloc: Global, core: &mut Core, asked: &str) -> Result<Reply, Fail> {
+    let moment = moment(asked)?;
+    let event = event(alloc, asked)?;
+    let Turned::Now(reply) = core.turn(&event, moment, Brought::Nothing)?;
+    Ok(reply)
+}
+
+// Plays a history from the start, on the machine and on the core. Each line begins with milliseconds and ends with the
+// reply that it has to have of both.
+fn plays(rt: &impl Abort, alloc: Global, history: &str) -> Result<(), Fail> {
     let limits = Limits {
         pits: 1,
         entries: 100,
     };
     let mut machine = Machine::make(alloc, limits)?;
     let mut core = Core::make(alloc, limits)?;
-    for (millis, ask, want) in history {
-        let moment = Moment::make(*millis).ok_or("a moment")?;
-        let entry = Entry {
-            who: 0,
-            moment,
-            event: event(alloc, *ask)?,
-        };
-        let reply = machine.step(&entry)?;
-        let found = reply_text(alloc, &reply)?;
-        assert_eq!(rt; found.as_str(), *want, "the machine at {millis}");
-        let Turned::Now(reply) = core.turn(&entry.event, moment, Brought::Nothing)?;
-        let found = reply_text(alloc, &reply)?;
-        assert_eq!(rt; found.as_str(), *want, "the core at {millis}");
+    let mut steps = 0u64;
+    for line in history.lines() {
+        if line.is_empty() || line.starts_with('#') {
+            continue;
+        }
+        let (asked, want) = line.split_once(" -> ").ok_or("a reply")?;
+        assert!(rt; steps < 100);
+        steps += 1;
+        let found = said(alloc, ask_machine(alloc, &mut machine, asked)?)?;
+        assert_eq!(rt; found.as_str(), want, "the machine at {asked}");
+        let found = said(alloc, ask_core(alloc, &mut core, asked)?)?;
+        assert_eq!(rt; found.as_str(), want, "the core at {asked}");
     }
     assert_eq!(rt; core.totals().left, 0);
     assert_eq!(rt; core.finish().left, 0);
     Ok(())
 }
 
+const ONE_INDEX: &str = "
+0 put docs a -> created 1
+0 put docs a -> updated 2
+0 remove docs b -> not found 3
+0 seal docs -> sealed [3]
+0 seal other -> no index
+0 quiet -> done
+";
+
+// A view stays as it was when it was opened.
+const VIEWS: &str = "
+0 put docs b -> created 1
+0 put docs a -> created 2
+0 put docs c -> created 3
+0 publish docs 0 3 -> done
+5 open docs -> opened 1
+5 remove docs a -> deleted 4
+5 publish docs 0 4 -> done
+5 search 1 -> 2 of 3 docs b 0 docs a 1
+5 search 1 1 -> 1 of 3 docs c 2
+# It is live up to one minute behind its opening, and moments never fall.
+5 open docs -> too many 1
+60005 search 1 2 -> 0 of 3
+60006 search 1 -> missing
+5 search 1 -> missing
+5 open docs -> opened 2
+5 search 2 -> 2 of 2 docs b 0 docs c 1
+";
+
 #[test]
 fn histories(rt: HostRuntime) -> Result<(), Fail> {
     let alloc = rt.alloc();
-    plays(
-        &rt,
-        alloc,
-        &[
-            (0, Ask::Put("docs", "a", N::Absent), "created 1"),
-            (0, Ask::Put("docs", "a", N::Absent), "updated 2"),
-            (0, Ask::Remove("docs", "b"), "not found 3"),
-            (0, Ask::Seal("docs"), "sealed [3]"),
-            (0, Ask::Seal("other"), "no index"),
-            (0, Ask::Quiet, "done"),
-        ],
-    )?;
-    // A view stays as it was when it was opened.
-    plays(
-        &rt,
-        alloc,
-        &[
-            (0, Ask::Put("docs", "b", N::Absent), "created 1"),
-            (0, Ask::Put("docs", "a", N::Absent), "created 2"),
-            (0, Ask::Put("docs", "c", N::Absent), "created 3"),
-            (0, Ask::Publish("docs", 0, 3), "done"),
-            (5, Ask::Open("docs"), "opened 1"),
-            (5, Ask::Remove("docs", "a"), "deleted 4"),
-            (5, Ask::Publish("docs", 0, 4), "done"),
-            (5, Ask::Search(1, None), "2 of 3 docs b 0 docs a 1"),
-            (5, Ask::Search(1, Some(1)), "1 of 3 docs c 2"),
-            // It is live up to one minute behind its opening, and moments never fall.
-            (5, Ask::Open("docs"), "too many 1"),
-            (60005, Ask::Search(1, Some(2)), "0 of 3"),
-            (60006, Ask::Search(1, None), "missing"),
-            (5, Ask::Search(1, None), "missing"),
-            (5, Ask::Open("docs"), "opened 2"),
-            (5, Ask::Search(2, None), "2 of 2 docs b 0 docs c 1"),
-        ],
-    )?;
+    plays(&rt, alloc, ONE_INDEX)?;
+    plays(&rt, alloc, VIEWS)?;
     pages_in_turn();
     sound_states();
     Ok(())
 }
 
+const SHARDS: &str = "
+0 create docs -> exists
+0 put logs a n=1 -> no index
+0 create logs -> done
+0 create logs -> exists
+# A refused write takes no number of its shard.
+0 put logs c n=1 -> created 1
+0 put logs d n=x -> kind 0
+0 put logs d n=2 -> created 2
+0 put logs a -> created 1
+0 put logs e n=3 -> created 1
+0 remove logs e -> deleted 2
+0 put docs a n=x -> created 1
+0 seal logs -> sealed [1, 0, 0, 2, 2]
+# Shards are published one by one, up to what was sealed.
+0 publish logs 3 1 -> done
+0 publish logs 0 1 -> done
+0 publish logs 4 2 -> done
+0 publish logs 9 2 -> done
+0 open other -> no index
+0 open logs -> opened 1
+0 search 1 -> 2 of 2 logs a 0 logs c 12884901888 skipped 3 of 5
+60001 search 7 -> missing
+60001 open docs -> opened 2
+60001 search 2 -> 0 of 0 skipped 1 of 1
+# A search of an index sees what was published last. Shards that have no such value are skipped.
+0 find other n 1 -> no index
+0 find logs n x -> bad query
+0 find logs n 1 -> 1 of 1 logs c skipped 4 of 5
+0 find logs n 2 -> 0 of 0 skipped 5 of 5
+0 find logs m 1 -> 0 of 0 skipped 5 of 5
+0 publish logs 3 2 -> done
+0 find logs n 2 -> 1 of 1 logs d skipped 4 of 5
+0 put logs d n=1 -> updated 3
+0 find logs n 2 -> 1 of 1 logs d skipped 4 of 5
+0 publish logs 3 3 -> done
+0 find logs n 2 -> 0 of 0 skipped 5 of 5
+0 find logs n 1 -> 2 of 2 logs c logs d skipped 4 of 5
+";
+
 #[test]
 fn indexes_and_shards(rt: HostRuntime) -> Result<(), Fail> {
-    let alloc = rt.alloc();
-    plays(
-        &rt,
-        alloc,
-        &[
-            (0, Ask::Create("docs"), "exists"),
-            (0, Ask::Put("logs", "a", N::Long(1)), "no index"),
-            (0, Ask::Create("logs"), "done"),
-            (0, Ask::Create("logs"), "exists"),
-            // A refused write takes no number of its shard.
-            (0, Ask::Put("logs", "c", N::Long(1)), "created 1"),
-            (0, Ask::Put("logs", "d", N::Key("x")), "kind 0"),
-            (0, Ask::Put("logs", "d", N::Long(2)), "created 2"),
-            (0, Ask::Put("logs", "a", N::Absent), "created 1"),
-            (0, Ask::Put("logs", "e", N::Long(3)), "created 1"),
-            (0, Ask::Remove("logs", "e"), "deleted 2"),
-            (0, Ask::Put("docs", "a", N::Key("x")), "created 1"),
-            (0, Ask::Seal("logs"), "sealed [1, 0, 0, 2, 2]"),
-            // Shards are published one by one, up to what was sealed.
-            (0, Ask::Publish("logs", 3, 1), "done"),
-            (0, Ask::Publish("logs", 0, 1), "done"),
-            (0, Ask::Publish("logs", 4, 2), "done"),
-            (0, Ask::Publish("logs", 9, 2), "done"),
-            (0, Ask::Open("other"), "no index"),
-            (0, Ask::Open("logs"), "opened 1"),
-            (
-                0,
-                Ask::Search(1, None),
-                "2 of 2 logs a 0 logs c 12884901888",
-            ),
-            (60001, Ask::Search(7, None), "missing"),
-            (60001, Ask::Open("docs"), "opened 2"),
-            (60001, Ask::Search(2, None), "0 of 0"),
-        ],
-    )
+    plays(&rt, rt.alloc(), SHARDS)
 }
 
 fn put_op(alloc: Global, id: &str) -> Result<Op, Fail> {
@@ -340,18 +372,17 @@ fn applied(alloc: Global, ops: Vec<Op>) -> Result<Vec<Row>, NoMemory>
 // The first page of a context without shards.
 fn empty_page(alloc: Global) -> Result<Answer, Fail> {
     let mapping = mapping_of_n(alloc)?;
-    let context = ContextStore {
-        number: 1,
-        index: docs(alloc)?,
-        mapping,
-        shards: Vec::new(alloc),
-        expiry: 0,
-    };
+    let context = ContextStore::make(alloc, 1, docs(alloc)?, mapping, Vec::new(alloc), 0)?;
     let request = SearchRequest {
+        query: Query::All,
+        show_place: true,
         size: 2,
         after: None,
     };
-    Ok(answer(alloc, &context, &request)?)
+    match search_context(alloc, &context, &request)? {
+        Reply::Found(answer) => Ok(answer),
+        _ => Err("a page")?,
+    }
 }
 
 #[test]

@@ -1,7 +1,11 @@
 //! The calls of `es_types`.
+ghost use Rattle.std.specs.Prelude.{IfOk};
+ghost use Rattle.list_machine.specs.Objects.{IsObject};
+
+use crate::fields::document;
 use es_types::{
-    Bytes, Copied, Doc, DocId, DocValue, FieldName, IndexName, Items, KeepAlive, Member, Moment,
-    NoMemory, Op, Row, Text, Value,
+    Bytes, Copied, DocId, DocValue, FieldName, IndexName, Items, KeepAlive, Moment, NoMemory, Op,
+    Row, Text, Value,
 };
 use std::alloc::Global;
 use std::test::Fail;
@@ -14,43 +18,59 @@ pub(crate) fn bytes(alloc: Global, bytes: &[u8]) -> Result<Bytes, NoMemory> {
     Ok(Bytes::of(Vec::from_slice(alloc, bytes)?))
 }
 
+// The object without members.
+pub(crate) fn braces(alloc: Global) -> Result<Bytes, NoMemory>
+    ensures { IfOk result IsObject }
+{
+    Ok(Bytes::of(Vec::from_slice(alloc, b"{}")?))
+}
+
+// What this text can name: a document, an index or a field.
+fn names(alloc: Global, name: &str) -> Result<String, NoMemory> {
+    let mut names = String::new(alloc);
+    if DocId::make(text(alloc, name)?).is_ok() {
+        names.push_str("id")?;
+    }
+    if IndexName::make(text(alloc, name)?).is_ok() {
+        names.push_str(" index")?;
+    }
+    if FieldName::make(text(alloc, name)?).is_ok() {
+        names.push_str(" field")?;
+    }
+    Ok(names)
+}
+
 #[test]
 fn names_at_the_borders(rt: HostRuntime) -> Result<(), Fail> {
     let alloc = rt.alloc();
-    for (count, id, index, field) in [
-        (0, false, false, false),
-        (1, true, true, true),
-        (255, true, true, true),
-        (256, true, false, false),
-        (512, true, false, false),
-        (513, false, false, false),
+    for (count, want) in [
+        (0, ""),
+        (1, "id index field"),
+        (255, "id index field"),
+        (256, "id"),
+        (512, "id"),
+        (513, ""),
     ] {
         let name = "x".repeat(alloc, count)?;
-        let made = DocId::make(text(alloc, &name)?);
-        assert!(rt; made.is_ok() == id, "an id of {count} bytes");
-        let made = IndexName::make(text(alloc, &name)?);
-        assert!(rt; made.is_ok() == index, "an index of {count} bytes");
-        let made = FieldName::make(text(alloc, &name)?);
-        assert!(rt; made.is_ok() == field, "a field of {count} bytes");
+        let found = names(alloc, &name)?;
+        assert_eq!(rt; found.as_str(), want, "{count} bytes");
     }
-    for (name, index, field) in [
-        ("docs", true, true),
-        ("n", true, true),
-        ("0", true, true),
-        ("a.b", true, false),
-        ("a_-z", true, true),
-        ("_x", false, false),
-        ("-x", false, true),
-        (".", false, false),
-        ("A", false, true),
-        ("aB", false, true),
-        ("a/b", false, true),
-        ("\u{e9}", false, true),
+    for (name, want) in [
+        ("docs", "id index field"),
+        ("n", "id index field"),
+        ("0", "id index field"),
+        ("a.b", "id index"),
+        ("a_-z", "id index field"),
+        ("_x", "id"),
+        ("-x", "id field"),
+        (".", "id"),
+        ("A", "id field"),
+        ("aB", "id field"),
+        ("a/b", "id field"),
+        ("\u{e9}", "id field"),
     ] {
-        let made = IndexName::make(text(alloc, name)?);
-        assert!(rt; made.is_ok() == index, "an index {name}");
-        let made = FieldName::make(text(alloc, name)?);
-        assert!(rt; made.is_ok() == field, "a field {name}");
+        let found = names(alloc, name)?;
+        assert_eq!(rt; found.as_str(), want, "{name}");
     }
     Ok(())
 }
@@ -102,35 +122,37 @@ fn copies_of_rows(rt: HostRuntime) -> Result<(), Fail> {
     assert!(rt; copies(alloc, &row.id));
     assert!(rt; copies(alloc, &row.source));
     assert!(rt; copies(alloc, &row.values));
-    let remove = Op::Remove {
-        id: row.id.copy(alloc)?,
-    };
-    assert!(rt; copies(alloc, &remove));
-    let key = Member {
-        name: text(alloc, "tag")?,
-        value: DocValue::Key(text(alloc, "k")?),
-    };
-    let long = Member {
-        name: text(alloc, "n")?,
-        value: DocValue::Long(-7),
-    };
-    assert!(rt; copies(alloc, &key.value));
-    assert!(rt; copies(alloc, &long));
-    let doc = Doc {
-        source: row.source.copy(alloc)?,
-        members: Items::of(vec![in alloc; key, long]?),
-    };
-    assert!(rt; copies(alloc, &doc));
-    assert!(rt; copies(alloc, &DocValue::Null));
-    assert!(rt; copies(alloc, &DocValue::Other));
+    Ok(())
+}
+
+#[test]
+fn copies_of_operations(rt: HostRuntime) -> Result<(), Fail> {
+    let alloc = rt.alloc();
     let Row {
         id,
         source,
         values,
         ..
-    } = row;
+    } = row(alloc)?;
     let put = Op::Put { id, source, values };
     assert!(rt; copies(alloc, &put));
+    let Row { id, .. } = row(alloc)?;
+    let remove = Op::Remove { id };
+    assert!(rt; copies(alloc, &remove));
+    Ok(())
+}
+
+#[test]
+fn copies_of_documents(rt: HostRuntime) -> Result<(), Fail> {
+    let alloc = rt.alloc();
+    let doc = document(alloc, "tag=k n=-7")?;
+    assert!(rt; copies(alloc, &doc));
+    for member in doc.members.as_slice() {
+        assert!(rt; copies(alloc, member));
+        assert!(rt; copies(alloc, &member.value));
+    }
+    assert!(rt; copies(alloc, &DocValue::Null));
+    assert!(rt; copies(alloc, &DocValue::Other));
     Ok(())
 }
 

@@ -31,88 +31,91 @@ fn came(
     Ok((9, None, last))
 }
 
+fn end_text(end: Option<WireEnd>) -> &'static str {
+    match end {
+        None => "",
+        Some(WireEnd::Truncated) => " truncated",
+        Some(WireEnd::NotBuilt) => " not built",
+        Some(WireEnd::ReadFault) => " read fault",
+        Some(WireEnd::TooMuch) => " too much",
+        Some(WireEnd::NoMemory) => " no memory",
+    }
+}
+
+fn came_text(alloc: Global, stream: &[u8], piece: u32, failing: u64) -> Result<String, Fail> {
+    let (count, end, _) = came(alloc, stream, piece, failing)?;
+    let end = end_text(end);
+    Ok(format!(in alloc; "{count}{end}")?)
+}
+
 // So many requests come, and then this end, in whatever pieces the bytes come.
-fn expect(
-    rt: &impl Abort,
-    alloc: Global,
-    stream: &[u8],
-    count: u32,
-    end: Option<WireEnd>,
-) -> Result<(), Fail> {
+fn expect(rt: &impl Abort, alloc: Global, stream: &[u8], want: &str) -> Result<(), Fail> {
     for piece in [1, 7, 4096] {
-        let (requests, found, _) = came(alloc, stream, piece, 0)?;
-        assert_eq!(rt; requests, count, "in pieces of {piece}: {stream:?}");
-        assert!(rt; found == end, "in pieces of {piece}: {stream:?}");
+        let found = came_text(alloc, stream, piece, 0)?;
+        assert_eq!(rt; found.as_str(), want, "in pieces of {piece}: {stream:?}");
     }
     Ok(())
 }
 
+// A head, whose lines are parted by `|`, with a body of so many bytes.
+fn request_bytes(alloc: Global, body: &str, head: &str) -> Result<Vec<u8>, Fail> {
+    let mut bytes = Vec::new(alloc);
+    for line in head.split('|') {
+        bytes.extend_from_slice(line.as_bytes())?;
+        bytes.extend_from_slice(b"\r\n")?;
+    }
+    bytes.extend_from_slice(b"\r\n")?;
+    let body = body.parse::<usize>().ok().ok_or("a length")?;
+    bytes.extend_from_slice("z".repeat(alloc, body)?.as_bytes())?;
+    Ok(bytes)
+}
+
+// How many bytes of a body, the head, and what comes.
+const HEADS: &str = "\
+0 GET / HTTP/1.1|Host: h|USER-AGENT:x|accept: */*|Content-Type: a -> 1
+0 GET / HTTP/1.1|content-length:0 -> 1
+70000 GET / HTTP/1.1|content-length: 70000 -> 1
+1 GET / HTTP/1.1|content-length: 000000000000000001 -> 1
+1 GET / HTTP/1.1|content-length: 0000000000000000001 -> 0 not built
+0 GET / HTTP/1.1|content-length: 1x -> 0 not built
+0 GET / HTTP/1.1|content-length: 104857600 -> 0 truncated
+0 GET / HTTP/1.1|content-length: 104857601 -> 0 not built
+0 GET / HTTP/1.1|content-length: 1|content-length: 1 -> 0 not built
+0 GET / HTTP/1.1|te: x -> 0 not built
+0 GET / HTTP/1.0|host: h -> 0 not built
+0 OPTIONS * HTTP/1.1|host: h -> 0 not built
+";
+
 #[test]
 fn heads(rt: HostRuntime) -> Result<(), Fail> {
     let alloc = rt.alloc();
-    let refused = Some(WireEnd::NotBuilt);
-    // A first line, the header lines, and how many bytes of a body.
-    for (first, lines, body, count, end) in [
-        (
-            "GET / HTTP/1.1",
-            "Host: h\r\nUSER-AGENT:x\r\naccept: */*\r\nContent-Type: a",
-            0,
-            1,
-            None,
-        ),
-        ("GET / HTTP/1.1", "content-length:0", 0, 1, None),
-        ("GET / HTTP/1.1", "content-length: 70000", 70_000, 1, None),
-        (
-            "GET / HTTP/1.1",
-            "content-length: 000000000000000001",
-            1,
-            1,
-            None,
-        ),
-        (
-            "GET / HTTP/1.1",
-            "content-length: 0000000000000000001",
-            1,
-            0,
-            refused,
-        ),
-        ("GET / HTTP/1.1", "content-length: 1x", 0, 0, refused),
-        (
-            "GET / HTTP/1.1",
-            "content-length: 104857600",
-            0,
-            0,
-            Some(WireEnd::Truncated),
-        ),
-        ("GET / HTTP/1.1", "content-length: 104857601", 0, 0, refused),
-        (
-            "GET / HTTP/1.1",
-            "content-length: 1\r\ncontent-length: 1",
-            0,
-            0,
-            refused,
-        ),
-        ("GET / HTTP/1.1", "te: x", 0, 0, refused),
-        ("GET / HTTP/1.0", "host: h", 0, 0, refused),
-        ("OPTIONS * HTTP/1.1", "host: h", 0, 0, refused),
-        ("GET / HTTP/1.1\n\n", "host: h", 0, 0, refused),
-    ] {
-        let head = format!(in alloc; "{first}\r\n{lines}\r\n\r\n")?;
-        let mut stream = Vec::from_slice(alloc, head.as_bytes())?;
-        stream.extend_from_slice("z".repeat(alloc, body)?.as_bytes())?;
-        expect(&rt, alloc, &stream, count, end)?;
+    for line in HEADS.lines() {
+        let (body, line) = line.split_once(' ').ok_or("a length")?;
+        let (head, want) = line.split_once(" -> ").ok_or("an end")?;
+        let bytes = request_bytes(alloc, body, head)?;
+        expect(&rt, alloc, &bytes, want)?;
     }
+    let feeds = b"GET / HTTP/1.1\n\n\r\nhost: h\r\n\r\n";
+    expect(&rt, alloc, feeds, "0 not built")?;
     // A head that does not end.
-    for (long, end) in [(16_383, WireEnd::Truncated), (16_384, WireEnd::NotBuilt)] {
-        expect(
-            &rt,
-            alloc,
-            "a".repeat(alloc, long)?.as_bytes(),
-            0,
-            Some(end),
-        )?;
+    for (long, want) in [(16_383, "0 truncated"), (16_384, "0 not built")] {
+        let bytes = "a".repeat(alloc, long)?;
+        expect(&rt, alloc, bytes.as_bytes(), want)?;
     }
     Ok(())
+}
+
+// The last of these requests, which has no moment and closes nothing.
+fn last_text(alloc: Global, stream: &str) -> Result<String, Fail> {
+    let last = came(alloc, stream.as_bytes(), 5, 0)?.2.ok_or("a request")?;
+    if last.moment.is_some() || last.last {
+        return Ok(String::from_str(alloc, "told")?);
+    }
+    let method = last.method.as_str();
+    let path = last.path.as_str();
+    let query = str::from_utf8(last.query.as_slice()).ok().ok_or("text")?;
+    let body = str::from_utf8(last.body.as_slice()).ok().ok_or("text")?;
+    Ok(format!(in alloc; "{method} {path} [{query}] [{body}]")?)
 }
 
 #[test]
@@ -121,29 +124,24 @@ fn cuts(rt: HostRuntime) -> Result<(), Fail> {
     let two = "GET /a HTTP/1.1\r\n\r\nPUT /b?c?d HTTP/1.1\r\ncontent-LENGTH:  3 \r\n\r\nabc";
     // Cut short, the first request is whole from its 19th byte on, and the second at the end alone.
     for cut in 0..two.len() {
-        let end = if cut == 0 || cut == 19 {
-            None
-        } else {
-            Some(WireEnd::Truncated)
+        let want = match cut {
+            0 => "0",
+            19 => "1",
+            1..=18 => "0 truncated",
+            _ => "1 truncated",
         };
-        let count = if cut < 19 { 0 } else { 1 };
-        expect(&rt, alloc, &two.as_bytes()[..cut], count, end)?;
+        expect(&rt, alloc, &two.as_bytes()[..cut], want)?;
     }
-    expect(&rt, alloc, two.as_bytes(), 2, None)?;
-    let (count, end, _) = came(alloc, two.as_bytes(), 5, 3)?;
-    assert!(rt; count == 0 && end == Some(WireEnd::ReadFault));
-    for (text, path, has_query, query, body) in [
-        (two, "/b", true, "c?d", "abc"),
-        ("PUT /a? HTTP/1.1\r\n\r\n", "/a", true, "", ""),
-        ("PUT /a HTTP/1.1\r\n\r\n", "/a", false, "", ""),
+    expect(&rt, alloc, two.as_bytes(), "2")?;
+    let found = came_text(alloc, two.as_bytes(), 5, 3)?;
+    assert_eq!(rt; found.as_str(), "0 read fault");
+    for (text, want) in [
+        (two, "PUT /b [c?d] [abc]"),
+        ("PUT /a? HTTP/1.1\r\n\r\n", "PUT /a [] []"),
+        ("PUT /a HTTP/1.1\r\n\r\n", "PUT /a [] []"),
     ] {
-        let last = came(alloc, text.as_bytes(), 5, 0)?.2.ok_or("a request")?;
-        assert_eq!(rt; last.method.as_str(), "PUT");
-        assert_eq!(rt; last.path.as_str(), path);
-        assert_eq!(rt; last.has_query, has_query);
-        assert_eq!(rt; last.query.as_slice(), query.as_bytes());
-        assert_eq!(rt; last.body.as_slice(), body.as_bytes());
-        assert!(rt; last.moment.is_none() && !last.last);
+        let found = last_text(alloc, text)?;
+        assert_eq!(rt; found.as_str(), want);
     }
     one_cut();
     Ok(())

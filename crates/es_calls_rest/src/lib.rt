@@ -6,6 +6,10 @@ mod bodies;
 #[cfg(test)]
 mod given;
 #[cfg(test)]
+mod queries;
+#[cfg(test)]
 mod replies;
 #[cfg(test)]
 mod routes;
+#[cfg(test)]
+mod searches;

@@ -141,18 +141,22 @@ fn writes(rt: HostRuntime) -> Result<(), Fail> {
     says(&rt, alloc, true, Wrote::NotFound, 404, "not_found")
 }
 
-fn hit(alloc: Global, id: &str, source: &[u8], shown: i64) -> Result<Hit, Fail> {
+fn hit(alloc: Global, id: &str, source: &[u8], shown: Vec<Value>) -> Result<Hit, Fail> {
     Ok(Hit {
         index: index(alloc, "i")?,
         id: doc_id(alloc, id)?,
         source: bytes(alloc, source)?,
-        shown: Items::of(vec![in alloc; Value::Long(shown)]?),
+        shown: Items::of(shown),
     })
 }
 
+fn placed(alloc: Global, place: i64) -> Result<Vec<Value>, Fail> {
+    Ok(vec![in alloc; Value::Long(place)]?)
+}
+
 fn two_hits(alloc: Global) -> Result<Answer, Fail> {
-    let first = hit(alloc, "a", b"{\"n\":1}", 0)?;
-    let second = hit(alloc, "b", b"{\"n\":2}", -1)?;
+    let first = hit(alloc, "a", b"{\"n\":1}", placed(alloc, 0)?)?;
+    let second = hit(alloc, "b", b"{\"n\":2}", placed(alloc, -1)?)?;
     Ok(Answer {
         counts: Counts {
             total: 2,
@@ -170,9 +174,30 @@ fn two_hits(alloc: Global) -> Result<Answer, Fail> {
 fn a_page(rt: HostRuntime) -> Result<(), Fail> {
     let alloc = rt.alloc();
     let found = Reply::Found(two_hits(alloc)?);
-    let response = reply(RouteName::Search { pit: 1 }, found, 200);
+    let response = reply(RouteName::Search { pit: Some(1) }, found, 200);
     let body =
         "{\"pit_id\":\"UAAAAAAAAAAB\",\"took\":0,\"timed_out\":false,\"_shards\":{\"total\":2,\"successful\":2,\"skipped\":0,\"failed\":0},\"hits\":{\"total\":{\"value\":2,\"relation\":\"eq\"},\"max_score\":null,\"hits\":[{\"_index\":\"i\",\"_id\":\"a\",\"_score\":null,\"_source\":{\"n\":1},\"sort\":[0]},{\"_index\":\"i\",\"_id\":\"b\",\"_score\":null,\"_source\":{\"n\":2},\"sort\":[-1]}]}}";
+    prints(&rt, alloc, &response, 200, body)
+}
+
+#[test]
+fn a_page_of_an_index(rt: HostRuntime) -> Result<(), Fail> {
+    let alloc = rt.alloc();
+    let first = hit(alloc, "a", b"{}", Vec::new(alloc))?;
+    let found = Reply::Found(Answer {
+        counts: Counts {
+            total: 3,
+            successful: 3,
+            skipped: 1,
+            failed: 0,
+        },
+        phases: 2,
+        total: 1,
+        hits: Items::of(vec![in alloc; first]?),
+    });
+    let response = reply(RouteName::Search { pit: None }, found, 200);
+    let body =
+        "{\"took\":0,\"timed_out\":false,\"num_reduce_phases\":2,\"_shards\":{\"total\":3,\"successful\":3,\"skipped\":1,\"failed\":0},\"hits\":{\"total\":{\"value\":1,\"relation\":\"eq\"},\"max_score\":null,\"hits\":[{\"_index\":\"i\",\"_id\":\"a\",\"_score\":null,\"_source\":{}}]}}";
     prints(&rt, alloc, &response, 200, body)
 }
 
@@ -268,6 +293,13 @@ fn refused_for_itself(rt: HostRuntime) -> Result<(), Fail> {
     refuses(&rt, alloc, fault, 400, kind, "limit [shards]")?;
     let fault = RestFault::Limit(LimitName::Fields);
     refuses(&rt, alloc, fault, 400, kind, "limit [fields]")?;
+    let fault = RestFault::Limit(LimitName::Pit);
+    refuses(&rt, alloc, fault, 400, kind, "limit [pit]")?;
+    let fault = RestFault::Limit(LimitName::Window);
+    refuses(&rt, alloc, fault, 400, kind, "limit [window]")?;
+    let kind = "query_shard_exception";
+    let reason = "a query value of another kind";
+    refuses(&rt, alloc, RestFault::BadQuery, 400, kind, reason)?;
     refuses(
         &rt,
         alloc,

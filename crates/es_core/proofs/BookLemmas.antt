@@ -14,7 +14,7 @@ use Rattle.std.proofs.lemmas.List.Quantifiers.{all_pairs_push}
 use Rattle.std.proofs.lemmas.List.Folds.{find_at}
 use Rattle.std.proofs.lemmas.List.Sums.{position_or_len_is}
 use Rattle.std.proofs.lemmas.Option.{slice_get-get_or, slice_get_past}
-use Rattle.list_machine.specs.declared.store.ContextStore.{ContextStore}
+use Rattle.list_machine.specs.declared.context.ContextStore.{ContextStore}
 use Rattle.list_machine.specs.State.{Context as Seen, is_live}
 use Rattle.list_machine.specs.Stores.{IsSmall, context_seen, view_seen}
 use Rattle.es_core.specs.Contexts.{AreKept, live_context}

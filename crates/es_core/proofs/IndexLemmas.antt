@@ -1,5 +1,5 @@
 -- The index of a name in the list of indexes, and what becomes of it.
-use Rattle.std.proofs.Common.{◌≡◌, ℕ, ◌+◌, ◌<◌, ◌≤◌, Bool, true, false, not, cond, ltb, eqb, List, [], ◌∷◌, ◌++◌, zero, suc, length, map, set, get_or, slice_get, Option, Some, None, Result, Ok, Err, IfOk, Vec, Global, replicate, sym, refl, ap, ap₂, subst, ◌∙◌, ⊎_elim, arith, length-append, length-set}
+use Rattle.std.proofs.Common.{◌≡◌, ℕ, ◌+◌, ◌<◌, ◌≤◌, Bool, true, false, not, cond, ltb, eqb, List, [], ◌∷◌, ◌++◌, zero, suc, length, map, set, get_or, slice_get, Option, Some, None, Result, Ok, Err, IfOk, Bor, Vec, Global, replicate, sym, refl, ap, ap₂, subst, ◌∙◌, ⊎_elim, arith, length-append, length-set}
 use Rattle.std.specs.BTreeMap.{BTreeMap, get_by_text}
 use Rattle.std.specs.List.{All, position, position_or_len}
 use Rattle.std.specs.Prelude.{String}
@@ -22,14 +22,16 @@ use Rattle.es_types.specs.Fields.{fit}
 use Rattle.es_types.specs.Homes.{shard_of}
 use Rattle.list_machine.specs.declared.event.Change.{Change}
 use Rattle.list_machine.specs.declared.event.Change.TheVariants.{Put, Remove}
-use Rattle.list_machine.specs.declared.event.Event.TheVariants.{Create, Write, Publish, Seal}
+use Rattle.list_machine.specs.declared.event.Event.TheVariants.{Create, Write, Publish, Seal, Search}
+use Rattle.list_machine.specs.declared.event.Target.TheVariants.{Index as Named}
+use Rattle.list_machine.specs.declared.search.SearchRequest.{SearchRequest}
 use Rattle.list_machine.specs.declared.event.Reply.{Reply}
 use Rattle.list_machine.specs.declared.event.Reply.TheVariants.{BadDoc, Done, NoIndex, Wrote as WroteReply, Sealed, ShardFull}
 use Rattle.list_machine.specs.declared.event.Wrote.{Wrote}
 use Rattle.list_machine.specs.Rows.{Shard, has_id, last_number, publish, rows_to_come}
-use Rattle.list_machine.specs.State.{Index, State, empty_shard, id_of, index_of, put_index}
-use Rattle.list_machine.specs.Step.{append_op, create, happen, is_full, op_of, put_op, publish_index, publish_shard, put_shard, seal, write, write_op, write_shard, wrote}
-use Rattle.list_machine.specs.Stores.{IsSmall}
+use Rattle.list_machine.specs.State.{Index, State, empty_shard, id_of, index_of, put_index, view_of}
+use Rattle.list_machine.specs.Step.{append_op, create, happen, is_full, op_of, put_op, publish_index, publish_shard, put_shard, seal, search_index, search_reply, write, write_op, write_shard, wrote}
+use Rattle.list_machine.specs.Stores.{IsSmall, view_over}
 use Rattle.es_core.specs.declared.index.Index.{Index as Store}
 use Rattle.es_core.specs.Indexes.{AllNumbered, AreNumbered, IsLike, Moves, Placed, publish_at, publish_in, sealed, write_at, write_by, write_in}
 use Rattle.es_core.specs.Seen.{index_seen, indexes_seen}
@@ -269,6 +271,26 @@ indexes_seen-same {name} {stores} {at} {store} found new like same =
     map-set_same index_seen stores at new store
     (ap₂ (λ named mapped. index named mapped new.shards.items) like.name like.mapping ∙ ap (index store.name store.mapping) same ∙ ap index_seen found.is)
 
+-- a search of the found index, of which nothing seen changes
+search_turns : {name : List ℕ} {stores : List Store} {at : ℕ} {store : Store} → IsFound name stores at store
+    → (request : SearchRequest) (new : Store) → IsLike store new → new.shards.items ≡ store.shards.items → (reply : Reply) → reply ≡ search_reply (view_of (index_seen store)) request
+    → Moves (λ state. happen state (Search (Named name) request)) stores (set stores at new) reply
+search_turns {name} {stores} {at} {store} found request new like same reply is state =
+    let seen : State = record state { indexes = indexes_seen stores } in
+    let replied : Reply → State × Reply = λ it. (seen, it) in
+    let with_indexes : List Index → State × Reply = λ them. (record state { indexes = them }, reply) in
+    ap (λ it. search_index seen request it) (index_of-first name stores at store found.first found.is)
+    ∙ ap replied (sym is)
+    ∙ ap with_indexes (sym (indexes_seen-same found new like same))
+
+-- the same of what a call gave
+pub search_done : {name : List ℕ} {stores : List Store} {at : ℕ} {store : Store} → IsFound name stores at store
+    → (request : SearchRequest) (new : Store) → IsLike store new → new.shards.items ≡ store.shards.items → {E : Type 0} (r : Result Reply E)
+    → IfOk r (λ reply. reply ≡ search_reply (view_of (index_seen store)) request)
+    → IfOk r (Moves (λ state. happen state (Search (Named name) request)) stores (set stores at new))
+search_done found request new like same (Ok reply) is = search_turns found request new like same reply is
+search_done found request new like same (Err e) is = tt
+
 -- found by a look-up in a slice
 pub found_at : (name : List ℕ) (stores slice : List Store) (at : ℕ) (store : Store) (place : Option ℕ) → slice ≡ stores
     → place ≡ position (λ (index : Store). bytes_eq index.name name) slice → place ≡ Some at → store ≡ get_or stores at store
@@ -417,3 +439,13 @@ copy_small store name mapping copies is few = record {
   few = omega (arith, store.few, ap length is, length-map store.shards.items (λ (shard : Shard). shard.rows));
   rows = All-map (λ (rows : List Row). length rows ≤ 2147483647) (λ (rows : Vec Row Global). rows.items) copies few;
 }
+
+-- what searches see of an index by references is small
+pub refs_small : (store : Store) (slice rows : List (Bor (List Row))) → slice ≡ rows → map (λ (lent : Bor (List Row)). lent.now) rows ≡ map (λ (shard : Shard). shard.rows) store.shards.items
+    → All (λ (lent : Bor (List Row)). length lent.now ≤ 2147483647) rows → IsSmall (view_over store.name store.mapping (map (λ (lent : Bor (List Row)). lent.now) slice))
+refs_small store slice rows same is few =
+    subst (λ them. IsSmall (view_over store.name store.mapping (map (λ (lent : Bor (List Row)). lent.now) them))) (sym same)
+    (record {
+      few = omega (arith, store.few, ap length is, length-map store.shards.items (λ (shard : Shard). shard.rows));
+      rows = All-map (λ (rows : List Row). length rows ≤ 2147483647) (λ (lent : Bor (List Row)). lent.now) rows few;
+    })

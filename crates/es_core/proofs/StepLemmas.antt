@@ -8,19 +8,17 @@ use Rattle.list_machine.specs.declared.event.Event.{Event}
 use Rattle.list_machine.specs.declared.event.Event.TheVariants.{OpenPit, Search}
 use Rattle.list_machine.specs.declared.event.Limits.{Limits}
 use Rattle.list_machine.specs.declared.event.Reply.{Reply}
-use Rattle.list_machine.specs.declared.event.Reply.TheVariants.{Found, Missing, NoIndex, Opened, TooMany}
-use Rattle.list_machine.specs.declared.event.Target.{Target}
+use Rattle.list_machine.specs.declared.event.Reply.TheVariants.{Missing, NoIndex, Opened, TooMany}
 use Rattle.list_machine.specs.declared.event.Target.TheVariants.{Pit}
 use Rattle.list_machine.specs.declared.search.SearchRequest.{SearchRequest}
 use Rattle.list_machine.specs.Rows.{Shard, last_number}
 use Rattle.list_machine.specs.Run.{CreatesSome, History, PutsObject, reply_of, run, state_of}
 use Rattle.list_machine.specs.State.{Context, Index, State, index_of, is_live, live_contexts, start, view_of}
-use Rattle.list_machine.specs.Step.{at_moment, happen, open_pit, search_pit, step}
+use Rattle.list_machine.specs.Step.{at_moment, happen, open_pit, search_pit, search_reply, step}
 use Rattle.list_machine.specs.Stores.{IsCounted, IsCountedIndex}
-use Rattle.list_machine.specs.Views.{answer}
 use Rattle.es_core.specs.declared.index.Index.{Index as Store}
 use Rattle.es_core.specs.declared.node.Core.{Core}
-use Rattle.es_core.specs.Contexts.{found, live_context, search_reply}
+use Rattle.es_core.specs.Contexts.{found, live_context}
 use Rattle.es_core.specs.Indexes.{AllNumbered, AreNumbered, Moves}
 use Rattle.es_core.specs.Seen.{indexes_seen}
 use Rattle.es_core.specs.Stands.{Stands, StandsOn}
@@ -86,7 +84,7 @@ moved_any old new moment event named is beside (Err e) moves = tt
 search_pit-is : (state : State) (request : SearchRequest) (o : Option Context) → search_pit state request o ≡ (state, found request (alive state.moment o))
 search_pit-is state request None = refl
 search_pit-is state request (Some context) =
-    elim (is_live state.moment context) as (λ b. ◌≡◌ {A = State × Reply} (cond {A = State × Reply} b (state, Found (answer context.view request 0)) (state, Missing)) (state, found request (cond b (Some context) None)))
+    elim (is_live state.moment context) as (λ b. ◌≡◌ {A = State × Reply} (cond {A = State × Reply} b (state, search_reply context.view request) (state, Missing)) (state, found request (cond b (Some context) None)))
     [ true ↦ refl | false ↦ refl ]
 
 -- a core that is seen as another one holds what that holds
@@ -100,9 +98,9 @@ beside_holds old new moment state beside indexes holds = record {
 }
 
 -- a search changes nothing
-search_steps : (old new : Core) (moment : ℕ) (target : Target) (request : SearchRequest) (reply : Reply) → IsBeside old new → indexes_seen new.indexes.items ≡ indexes_seen old.indexes.items
-    → reply ≡ search_reply request target moment old.book → Steps old new moment (Search target request) reply
-search_steps old new moment (Pit number) request reply beside indexes is state holds small =
+search_steps : (old new : Core) (moment number : ℕ) (request : SearchRequest) (reply : Reply) → IsBeside old new → indexes_seen new.indexes.items ≡ indexes_seen old.indexes.items
+    → reply ≡ found request (live_context number moment old.book) → Steps old new moment (Search (Pit number) request) reply
+search_steps old new moment number request reply beside indexes is state holds small =
     let replied : Reply → State × Reply = λ it. (state, it) in
     let live : alive state.moment (find (λ context. eqb context.number number) state.contexts) ≡ live_context number moment old.book =
     ap (λ at. alive at (find (λ context. eqb context.number number) state.contexts)) holds.moment_is
@@ -113,12 +111,12 @@ search_steps old new moment (Pit number) request reply beside indexes is state h
     (beside_holds old new moment state beside indexes holds)
 
 -- the same of what a call gave at that event
-pub search_done : (old new : Core) (moment : ℕ) (event : Event) (target : Target) (request : SearchRequest) → event ≡ Search target request
+pub search_done : (old new : Core) (moment : ℕ) (event : Event) (number : ℕ) (request : SearchRequest) → event ≡ Search (Pit number) request
     → IsBeside old new → indexes_seen new.indexes.items ≡ indexes_seen old.indexes.items → {E : Type 0} (r : Result Reply E)
-    → IfOk r (λ reply. reply ≡ search_reply request target moment old.book) → IfOk r (Steps old new moment event)
-search_done old new moment event target request named beside indexes (Ok reply) is =
-    subst (λ (it : Event). Steps old new moment it reply) (sym named) (search_steps old new moment target request reply beside indexes is)
-search_done old new moment event target request named beside indexes (Err e) is = tt
+    → IfOk r (λ reply. reply ≡ found request (live_context number moment old.book)) → IfOk r (Steps old new moment event)
+search_done old new moment event number request named beside indexes (Ok reply) is =
+    subst (λ (it : Event). Steps old new moment it reply) (sym named) (search_steps old new moment number request reply beside indexes is)
+search_done old new moment event number request named beside indexes (Err e) is = tt
 
 -- a point in time of an index that isn't there
 pub open_none : (core : Core) (moment : ℕ) (name : List ℕ) (keep : ℕ) → index_of name (indexes_seen core.indexes.items) ≡ None → Steps core core moment (OpenPit name keep) NoIndex

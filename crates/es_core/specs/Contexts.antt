@@ -1,13 +1,11 @@
 -- How contexts are kept, which of them are live, and what a search of one answers.
 use Rattle.std.specs.Prelude.{ℕ, ◌<◌, ◌==◌, List, filter, find, All, AllPairs, Option, Some, None}
 use Rattle.list_machine.specs.declared.event.Reply.{Reply}
-use Rattle.list_machine.specs.declared.event.Reply.TheVariants.{Found, Missing}
-use Rattle.list_machine.specs.declared.event.Target.{Target}
-use Rattle.list_machine.specs.declared.event.Target.TheVariants.{Pit}
+use Rattle.list_machine.specs.declared.event.Reply.TheVariants.{Missing}
 use Rattle.list_machine.specs.declared.search.SearchRequest.{SearchRequest}
-use Rattle.list_machine.specs.declared.store.ContextStore.{ContextStore}
-use Rattle.list_machine.specs.Views.{answer}
+use Rattle.list_machine.specs.declared.context.ContextStore.{ContextStore}
 use Rattle.list_machine.specs.State.{Context, is_live}
+use Rattle.list_machine.specs.Step.{search_reply}
 use Rattle.list_machine.specs.Stores.{IsSmall, view_seen}
 
 -- the numbers of contexts rise, and a search can count what each of them keeps
@@ -22,8 +20,4 @@ live_context number moment contexts = find (λ context. context.number == number
 -- what a search of it answers
 abbrev pub found : SearchRequest → Option Context → Reply
 found request None = Missing
-found request (Some context) = Found (answer context.view request 0)
-
--- what a search answers, where these are the contexts
-abbrev pub search_reply : SearchRequest → Target → ℕ → List Context → Reply
-search_reply request (Pit number) moment contexts = found request (live_context number moment contexts)
+found request (Some context) = search_reply context.view request

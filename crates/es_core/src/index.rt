@@ -1,11 +1,13 @@
-ghost use Rattle.std.specs.Prelude.{◌≡◌, ◌≤◌, length, map, replicate, All, IfOk, OnOk, OnErr};
-ghost use Rattle.list_machine.specs.State.{most_shards};
-ghost use Rattle.list_machine.specs.Step.{shard_limit};
+ghost use Rattle.std.specs.Prelude.{◌≡◌, ◌≤◌, length, map, replicate, All, IfOk, IfSome, OnOk, OnErr};
+ghost use Rattle.list_machine.specs.State.{most_shards, view_of};
+ghost use Rattle.list_machine.specs.Step.{search_reply, shard_limit};
+ghost use Rattle.list_machine.specs.Stores.{bounds_of_each};
+ghost use Rattle.std.proofs.Props.{props};
 
-use crate::homes::{empty_shards, write_shard};
+use crate::homes::{empty_shards, write_home};
 use crate::shard::Shard;
-use es_types::{DocId, Fail, IndexName, Mapping, NoMemory, Row, shard_of};
-use list_machine::{Change, Reply, make_op};
+use es_types::{Bounds, DocId, IndexName, Mapping, NoMemory, Row};
+use list_machine::{Change, Reply, SearchRequest, bounds_of_each, search_rows};
 use std::alloc::Global;
 
 /// An index, which has at least one shard, and no more than all indexes may have together.
@@ -14,8 +16,11 @@ pub struct Index {
     pub name: IndexName,
     pub mapping: Mapping,
     pub shards: Vec<Shard>,
+    /// Between which values the rows of each shard lie, where a search asked for that behind the last publish.
+    bounds: Option<Vec<Bounds>>,
     ghost some: { 1 ≤ length shards.items },
     ghost few: { length shards.items ≤ most_shards },
+    ghost bounded: { IfSome bounds (λ known. known.items ≡ bounds_of_each mapping (map (λ shard. shard.rows) shards.items)) } by { Prim.hlevel props },
 }
 
 impl Index {
@@ -38,6 +43,7 @@ impl Index {
             name,
             mapping,
             shards: empty_shards(alloc, shards)?,
+            bounds: None,
         })
     }
 
@@ -47,13 +53,7 @@ impl Index {
         ensures ok { IfOk result (λ reply. AreNumbered self.old.shards.items → write_in self.old.mapping self.old.shards.items id.now change.now ≡ (self.new.shards.items, reply)) }
         ensures err { OnErr result (self.new.shards.items ≡ self.old.shards.items) }
     {
-        let op = match make_op(alloc, &self.mapping, id, change) {
-            Ok(op) => op,
-            Err(Fail::Is(fault)) => return Ok(Reply::BadDoc(fault)),
-            Err(Fail::NoMemory) => return Err(NoMemory),
-        };
-        let home = shard_of(id, self.shards.len() as u32);
-        write_shard(alloc, &mut self.shards[home as usize], op)
+        write_home(alloc, &self.mapping, &mut self.shards, id, change)
     }
 
     /// The number of the last operation of each shard.
@@ -76,6 +76,7 @@ impl Index {
         if at as usize >= self.shards.len() {
             return Ok(());
         }
+        self.bounds = None;
         self.shards[at as usize].publish(upto)
     }
 
@@ -90,4 +91,32 @@ impl Index {
         }
         Ok(copies)
     }
+
+    /// What a search is answered. It looks for the bounds of the rows where none did since the last publish.
+    pub fn search(&mut self, alloc: Global, request: &SearchRequest) -> Result<Reply, NoMemory>
+        ensures like { IsLike self.old self.new }
+        ensures same { self.new.shards.items ≡ self.old.shards.items }
+        ensures reply { IfOk result (λ reply. reply ≡ search_reply (view_of (index_seen self.old)) request.now) }
+    {
+        let rows = rows_of(alloc, &self.shards)?;
+        if let Some(bounds) = &self.bounds {
+            return search_rows(alloc, &self.name, &self.mapping, &rows, bounds, request);
+        }
+        let bounds = bounds_of_each(alloc, &self.mapping, &rows)?;
+        let reply = search_rows(alloc, &self.name, &self.mapping, &rows, &bounds, request)?;
+        self.bounds = Some(bounds);
+        Ok(reply)
+    }
+}
+
+/// The rows of each shard that a search sees.
+fn rows_of<'a>(alloc: Global, shards: &'a [Shard]) -> Result<Vec<&'a [Row]>, NoMemory>
+    ensures rows { IfOk result (λ rows. map (λ rows. rows.now) rows.items ≡ map (λ shard. shard.rows) shards.now) }
+    ensures few { IfOk result (λ rows. All (λ rows. length rows.now ≤ shard_limit) rows.items) }
+{
+    let mut rows = Vec::with_capacity(alloc, shards.len())?;
+    for shard in shards {
+        rows.push(shard.rows())?;
+    }
+    Ok(rows)
 }

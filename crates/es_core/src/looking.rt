@@ -1,17 +1,17 @@
 ghost use Rattle.std.specs.Prelude.{◌≡◌, IfOk};
-ghost use Rattle.list_machine.specs.declared.event.Event.TheVariants.{Seal};
+ghost use Rattle.list_machine.specs.declared.event.Event.TheVariants.{Search, Seal};
 ghost use Rattle.list_machine.specs.State.{view_of};
 ghost use Rattle.list_machine.specs.Step.{happen};
 ghost use Rattle.list_machine.specs.Stores.{IsSmall, context_seen, view_seen};
-ghost use Rattle.es_core.specs.Contexts.{found, live_context, search_reply};
+ghost use Rattle.es_core.specs.Contexts.{found, live_context};
 ghost use Rattle.es_core.specs.Indexes.{AllNumbered, Moves, Placed};
-ghost use Rattle.es_core.specs.Seen.{index_seen};
+ghost use Rattle.es_core.specs.Seen.{index_seen, indexes_seen};
 
 use crate::book::Book;
 use crate::index::Index;
 use crate::places::place_of;
 use es_types::{Copied, IndexName, Items, Moment, NoMemory};
-use list_machine::{ContextStore, Reply, SearchRequest, Target, answer};
+use list_machine::{ContextStore, Reply, SearchRequest, Target, search_context};
 use std::alloc::Global;
 use std::collections::BTreeMap;
 
@@ -45,31 +45,31 @@ pub fn make_context(
 {
     let name = index.name.copy(alloc)?;
     let mapping = index.mapping.copy(alloc)?;
-    Ok(ContextStore {
-        number,
-        index: name,
-        mapping,
-        shards: index.view(alloc)?,
-        expiry,
-    })
+    let shards = index.view(alloc)?;
+    ContextStore::make(alloc, number, name, mapping, shards, expiry)
+}
+
+/// Searches an index as it is now.
+pub fn search_index(
+    alloc: Global,
+    places: &BTreeMap<String, usize>,
+    indexes: &mut Vec<Index>,
+    name: &IndexName,
+    request: &SearchRequest,
+) -> Result<Reply, NoMemory>
+    requires { Placed places.now indexes.old.items }
+    ensures placed { Placed places.now indexes.new.items }
+    ensures ok { IfOk result (Moves (λ state. happen state (Search (Target.Index name.now) request.now)) indexes.old.items indexes.new.items) }
+    ensures same { indexes_seen indexes.new.items ≡ indexes_seen indexes.old.items }
+{
+    let Some(at) = place_of(places, name) else {
+        return Ok(Reply::NoIndex);
+    };
+    indexes[at].search(alloc, request)
 }
 
 /// Searches the view of a context that is live.
-pub fn search(
-    alloc: Global,
-    book: &Book,
-    moment: Moment,
-    target: &Target,
-    request: &SearchRequest,
-) -> Result<Reply, NoMemory>
-    ensures { IfOk result (λ reply. reply ≡ search_reply request.now target.now moment book.now) }
-{
-    match target {
-        Target::Pit { number } => search_pit(alloc, book, moment, *number, request),
-    }
-}
-
-fn search_pit(
+pub fn search_pit(
     alloc: Global,
     book: &Book,
     moment: Moment,
@@ -81,6 +81,5 @@ fn search_pit(
     let Some(context) = book.find(number, moment) else {
         return Ok(Reply::Missing);
     };
-    let it = answer(alloc, context, request)?;
-    Ok(Reply::Found(it))
+    search_context(alloc, context, request)
 }

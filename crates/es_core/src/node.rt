@@ -4,13 +4,13 @@ ghost use Rattle.std.specs.BTreeMap.{get_by_text};
 use crate::book::Book;
 use crate::creating::{create, put_down};
 use crate::index::Index;
-use crate::looking::{make_context, seal, search};
+use crate::looking::{make_context, seal, search_index, search_pit};
 use crate::places::place_of;
 use crate::publishing::publish;
 use crate::writing::write;
 use crate::{Brought, Totals, Turned};
 use es_types::{IndexName, KeepAlive, Mapping, Moment, NoMemory};
-use list_machine::{Event, Limits, Reply, docs, sound_states};
+use list_machine::{Event, Limits, Reply, Target, docs, sound_states};
 use std::alloc::Global;
 use std::collections::BTreeMap;
 
@@ -103,9 +103,18 @@ impl Core {
                 publish(&self.places, &mut self.indexes, index, *shard, *upto)
             }
             Event::OpenPit { index, keep } => self.open_pit(moment, index, keep),
-            Event::Search { target, request } => {
-                search(self.alloc, &self.book, moment, target, request)
-            }
+            Event::Search { target, request } => match target {
+                Target::Index(index) => search_index(
+                    self.alloc,
+                    &self.places,
+                    &mut self.indexes,
+                    index,
+                    request,
+                ),
+                Target::Pit { number } => {
+                    search_pit(self.alloc, &self.book, moment, *number, request)
+                }
+            },
             Event::Quiet => Ok(Reply::Done),
         }
     }

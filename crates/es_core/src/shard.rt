@@ -62,6 +62,14 @@ impl Shard {
         self.base.saturating_add(self.pending.len() as u64)
     }
 
+    /// The rows that a search sees.
+    pub fn rows(&self) -> &[Row]
+        ensures rows { result.now ≡ self.now.rows }
+        ensures few { length result.now ≤ shard_limit }
+    {
+        self.rows.as_slice()
+    }
+
     /// A copy of the rows that a search sees.
     pub fn view(&self, alloc: Global) -> Result<Vec<Row>, NoMemory>
         ensures rows { IfOk result (λ rows. rows.items ≡ self.now.rows) }
@@ -73,6 +81,7 @@ impl Shard {
     /// Adds an operation, and says what it did and its number. After an error nothing has changed.
     pub fn write(&mut self, alloc: Global, op: Op) -> Result<(Wrote, u64), Fail<ShardFull>>
         ensures full { is_refused result ≡ is_full_shard self.old }
+        ensures rows { self.new.rows ≡ self.old.rows }
         ensures op { OnOk result (self.new ≡ append_op self.old op) }
         ensures did { IfOk result (λ it. it.0 ≡ did op (has_id (id_of op) (rows_to_come self.old))) }
         ensures number { last_number_of self.old < 2 ^ 53 → IfOk result (λ it. it.1 ≡ last_number_of self.old + 1) }
@@ -96,6 +105,7 @@ impl Shard {
     fn append(&mut self, alloc: Global, op: Op) -> Result<Wrote, NoMemory>
         requires { is_full_shard self.old ≡ false }
         ensures op { OnOk result (self.new ≡ append_op self.old op) }
+        ensures rows { self.new.rows ≡ self.old.rows }
         ensures did { IfOk result (λ it. it ≡ did op (has_id (id_of op) (rows_to_come self.old))) }
         ensures err { OnErr result (self.new ≡ self.old) }
     {

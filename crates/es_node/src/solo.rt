@@ -19,9 +19,14 @@ pub struct Solo {
 }
 
 impl Model for Solo {
+    ghost use Rattle.std.specs.Coded.{codes};
+    ghost use Rattle.es_query.specs.contracts.query.Query as query;
     ghost use Rattle.es_node.specs.Solo.{IsRunning, Journal};
 
     ghost Value = { Journal };
+
+    // An entry may hold a query, which holds queries.
+    ghost coded = { Prim.hlevel (codes, query.the_row.coded) };
 
     ghost view = { λ s. record { limits = s.limits; history = s.journal.items } };
 

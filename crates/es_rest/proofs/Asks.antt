@@ -18,6 +18,7 @@ answers_err {A} {B} asked next fault.Spent h = ap (λ (r : Result A RestFault). 
 answers_err {A} {B} asked next (fault.NoIndex name) h = ap (λ (r : Result A RestFault). and_then r next) h
 answers_err {A} {B} asked next (fault.Exists name) h = ap (λ (r : Result A RestFault). and_then r next) h
 answers_err {A} {B} asked next (fault.BadDoc doc) h = ap (λ (r : Result A RestFault). and_then r next) h
+answers_err {A} {B} asked next fault.BadQuery h = ap (λ (r : Result A RestFault). and_then r next) h
 answers_err {A} {B} asked next (fault.NoContext id) h = ap (λ (r : Result A RestFault). and_then r next) h
 answers_err {A} {B} asked next (fault.TooMany n) h = ap (λ (r : Result A RestFault). and_then r next) h
 answers_err {A} {B} asked next fault.ShardFull h = ap (λ (r : Result A RestFault). and_then r next) h

@@ -1,4 +1,3 @@
-pub mod Json
 pub mod Scripts
 pub mod Refreshes
 pub mod Bulks

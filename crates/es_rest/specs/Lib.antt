@@ -1,5 +1,3 @@
-pub mod Ids
-pub mod Bodies
 pub mod Paths
 pub mod Scripts
 pub mod Items

@@ -14,7 +14,7 @@ use Rattle.matchit.specs.declared.error.InsertError.{InsertError}
 use Rattle.reply_json.specs.declared.fault.RestFault.{RestFault}
 use Rattle.reply_json.specs.declared.fault.RestFault.TheVariants.{BadParam}
 use Rattle.es_rest.specs.declared.paths.Place.{Place}
-use Rattle.es_rest.specs.declared.paths.Place.TheVariants.{Index, Doc, Bulk, IndexBulk, Refresh, OpenPit, Search}
+use Rattle.es_rest.specs.declared.paths.Place.TheVariants.{Index, Doc, Bulk, IndexBulk, Refresh, OpenPit, Search, IndexSearch}
 use Rattle.es_rest.specs.declared.params.Param.{Param}
 
 -- ---- routes
@@ -32,13 +32,14 @@ with_route route place routes = read_route (parse_route route) place routes
 
 unfoldable pub all_routes : Routes
 all_routes =
-    with_route (codes "/_search") Search
+    with_route (codes "/{index}/_search") IndexSearch
+    (with_route (codes "/_search") Search
     (with_route (codes "/{index}/_pit") OpenPit
     (with_route (codes "/{index}/_refresh") Refresh
     (with_route (codes "/{index}/_bulk") IndexBulk
     (with_route (codes "/_bulk") Bulk
     (with_route (codes "/{index}/_doc/{id}") Doc
-    (with_route (codes "/{index}") Index []))))))
+    (with_route (codes "/{index}") Index [])))))))
 
 -- the route that a path has, as it is sent: text goes before a parameter, which is a whole part of the path
 unfoldable pub place_of : List ℕ → Option Place

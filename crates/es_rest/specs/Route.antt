@@ -16,16 +16,18 @@ use Rattle.list_machine.specs.Objects.{IsObject}
 use Rattle.list_machine.specs.Run.{CreatesSome}
 use Rattle.list_machine.specs.State.{docs}
 use Rattle.list_machine.specs.declared.event.Event.TheVariants as event
-use Rattle.list_machine.specs.declared.event.Target.TheVariants.{Pit}
+use Rattle.list_machine.specs.declared.event.Target.TheVariants as target
+use Rattle.list_machine.specs.declared.search.SearchRequest.{SearchRequest}
 use Rattle.reply_json.specs.declared.fault.RestFault.{RestFault}
 use Rattle.reply_json.specs.declared.fault.RestFault.TheVariants as fault
 use Rattle.es_rest.specs.declared.ask.Ask.{Ask}
 use Rattle.es_rest.specs.declared.ask.Ask.TheVariants as ask
-use Rattle.es_rest.specs.declared.body.Wanted.{Wanted}
+use Rattle.search_json.specs.declared.search.SearchBody.{SearchBody}
+use Rattle.search_json.specs.Searches.{search_of}
 use Rattle.es_rest.specs.declared.paths.Place.{Place}
 use Rattle.es_rest.specs.declared.paths.Place.TheVariants as place
-use Rattle.es_rest.specs.Bodies.{search_of}
 use Rattle.es_rest.specs.Items.{body_fault, items_of, named}
+use Rattle.es_rest.specs.declared.params.Param.{Param}
 use Rattle.es_rest.specs.Paths.{decoded, has_param, params_of, part, place_of, refresh_in}
 
 abbrev pub and_then : {A B : Type 0} → Result A RestFault → (A → Result B RestFault) → Result B RestFault
@@ -34,6 +36,12 @@ and_then (Err fault) next = Err fault
 
 abbrev pub is_method : List ℕ → Request → Bool
 is_method name request = bytes_eq request.method name
+
+abbrev pub puts_or_posts : Request → Bool
+puts_or_posts request = is_method (codes "PUT") request || is_method (codes "POST") request
+
+abbrev pub gets_or_posts : Request → Bool
+gets_or_posts request = is_method (codes "GET") request || is_method (codes "POST") request
 
 abbrev pub is_empty : List ℕ → Bool
 is_empty bytes = length bytes == 0
@@ -114,7 +122,7 @@ refresh_asked request =
     and_then (index_in request) (λ index. and_then (refresh_in false None (params_of request.query)) (λ refresh.
     and_then (no_body request) (λ none. named_index index (ask.Refresh index))))
 
--- the one opening and the one search that are built
+-- the one opening that is built
 abbrev pub minute : ℕ
 minute = 60000
 
@@ -126,13 +134,53 @@ is_opening request =
 abbrev pub opening_asked : Request → Result Ask RestFault
 opening_asked request = if is_opening request then Ok (ask.OpenPit docs minute) else Err fault.NotBuilt
 
-abbrev pub wanted_asked : Option Wanted → Result Ask RestFault
-wanted_asked None = Err fault.NotBuilt
-wanted_asked (Some w) = Ok (ask.Search (Pit w.number) (record { size = w.size; after = w.after }))
+-- ---- searches
 
-abbrev pub search_asked : ℕ → Request → Result Ask RestFault
-search_asked newest request =
-    if is_method (codes "POST") request && not request.has_query then wanted_asked (search_of newest request.body) else Err fault.NotBuilt
+-- a form of the body that isn't built goes before all other refusals
+abbrev pub check_form : Result SearchBody BodyFault → Result (Unit {0}) RestFault
+check_form (Err body.NotBuilt) = Err fault.NotBuilt
+check_form other = Ok tt
+
+abbrev pub no_params : Request → Result Bool RestFault
+no_params request = refresh_in false None (params_of request.query)
+
+-- a body that is none comes before a name that is none, and that before a limit of the body
+abbrev pub index_search_of : List ℕ → Result SearchBody BodyFault → Result Ask RestFault
+index_search_of index (Ok asked) = named_index index (ask.Search (target.Index index) asked.request)
+index_search_of index (Err (body.Limit name)) = if is_index_name index then Err (fault.Limit name) else Err (fault.Limit limit.Index)
+index_search_of index (Err other) = Err (body_fault other)
+
+abbrev pub searched_pit : Option ℕ → SearchRequest → Result Ask RestFault
+searched_pit None request = Err (fault.Limit limit.Pit)
+searched_pit (Some number) request = Ok (ask.Search (target.Pit number) request)
+
+abbrev pub pit_search_of : Result SearchBody BodyFault → Result Ask RestFault
+pit_search_of (Ok asked) = searched_pit asked.pit asked.request
+pit_search_of (Err fault) = Err (body_fault fault)
+
+-- the body is known
+abbrev pub index_search_by : Request → Result SearchBody BodyFault → Result Ask RestFault
+index_search_by request asked =
+    and_then (check_form asked) (λ built. and_then (index_in request) (λ index.
+    and_then (no_params request) (λ none. index_search_of index asked)))
+
+abbrev pub pit_search_by : Request → Result SearchBody BodyFault → Result Ask RestFault
+pit_search_by request asked = and_then (check_form asked) (λ built. and_then (no_params request) (λ none. pit_search_of asked))
+
+abbrev pub index_search_asked : ℕ → Request → Result Ask RestFault
+index_search_asked newest request = index_search_by request (search_of true newest request.body)
+
+abbrev pub pit_search_asked : ℕ → Request → Result Ask RestFault
+pit_search_asked newest request = pit_search_by request (search_of false newest request.body)
+
+-- the parameters of a search that aren't built yet: `scroll` is one of an index
+abbrev pub has_unbuilt : Bool → List Param → Bool
+has_unbuilt has_index params =
+    has_param (codes "pretty") params || (has_param (codes "batched_reduce_size") params || (has_index && has_param (codes "scroll") params))
+
+abbrev pub check_search : Bool → Request → Result (Unit {0}) RestFault
+check_search has_index request =
+    if gets_or_posts request && not (has_unbuilt has_index (params_of request.query)) then Ok tt else Err fault.NotBuilt
 
 -- a route of another method, or with the parameter `pretty`, isn't built yet
 abbrev pub check_built : Bool → Request → Result (Unit {0}) RestFault
@@ -141,35 +189,30 @@ check_built taken request = if taken && not (has_param (codes "pretty") (params_
 abbrev pub built : Bool → Request → Result Ask RestFault → Result Ask RestFault
 built taken request asked = and_then (check_built taken request) (λ yes. asked)
 
-abbrev pub puts_or_posts : Request → Bool
-puts_or_posts request = is_method (codes "PUT") request || is_method (codes "POST") request
-
-abbrev pub gets_or_posts : Request → Bool
-gets_or_posts request = is_method (codes "GET") request || is_method (codes "POST") request
-
 abbrev pub doc_asked : Request → Result Ask RestFault
 doc_asked request =
     if puts_or_posts request then built true request (put_asked request)
     else built (is_method (codes "DELETE") request) request (remove_asked request)
 
 -- what a request of a route that begins with an index asks for
-abbrev pub asked_at_index : Request → Place → Result Ask RestFault
-asked_at_index request place.Index = built (is_method (codes "PUT") request) request (create_asked request)
-asked_at_index request place.Doc = doc_asked request
-asked_at_index request place.IndexBulk = built (puts_or_posts request) request (index_bulk_asked request)
-asked_at_index request place.Refresh = built (gets_or_posts request) request (refresh_asked request)
-asked_at_index request other = Err fault.NotBuilt
+abbrev pub asked_at_index : ℕ → Request → Place → Result Ask RestFault
+asked_at_index newest request place.Index = built (is_method (codes "PUT") request) request (create_asked request)
+asked_at_index newest request place.Doc = doc_asked request
+asked_at_index newest request place.IndexBulk = built (puts_or_posts request) request (index_bulk_asked request)
+asked_at_index newest request place.Refresh = built (gets_or_posts request) request (refresh_asked request)
+asked_at_index newest request place.IndexSearch = and_then (check_search true request) (λ yes. index_search_asked newest request)
+asked_at_index newest request other = Err fault.NotBuilt
 
 -- the index's part of the path is none of the service's own words
-abbrev pub of_index : Request → Place → Result Ask RestFault
-of_index request place = if is_own_word (part 1 request.path) then Err fault.NotBuilt else asked_at_index request place
+abbrev pub of_index : ℕ → Request → Place → Result Ask RestFault
+of_index newest request place = if is_own_word (part 1 request.path) then Err fault.NotBuilt else asked_at_index newest request place
 
 abbrev pub asked_at : ℕ → Request → Option Place → Result Ask RestFault
 asked_at newest request None = Err fault.NotBuilt
 asked_at newest request (Some place.Bulk) = built (puts_or_posts request) request (bulk_asked None request)
 asked_at newest request (Some place.OpenPit) = opening_asked request
-asked_at newest request (Some place.Search) = search_asked newest request
-asked_at newest request (Some place) = of_index request place
+asked_at newest request (Some place.Search) = and_then (check_search false request) (λ yes. pit_search_asked newest request)
+asked_at newest request (Some place) = of_index newest request place
 
 -- What a request asks for, where points in time up to the newest were opened.
 unfoldable pub asked_of : ℕ → Request → Result Ask RestFault

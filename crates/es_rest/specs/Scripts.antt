@@ -4,7 +4,8 @@ use Rattle.list_machine.specs.declared.event.Event.{Event}
 use Rattle.list_machine.specs.declared.event.Event.TheVariants as event
 use Rattle.list_machine.specs.declared.event.Reply.{Reply}
 use Rattle.list_machine.specs.declared.event.Reply.TheVariants as reply
-use Rattle.list_machine.specs.declared.event.Target.TheVariants.{Pit}
+use Rattle.list_machine.specs.declared.event.Target.{Target}
+use Rattle.list_machine.specs.declared.event.Target.TheVariants.{Index, Pit}
 use Rattle.list_machine.specs.declared.event.Limits.{Limits}
 use Rattle.list_machine.specs.Run.{History}
 use Rattle.list_machine.specs.Serving.{Asked, MayHaveAsked, asked}
@@ -22,6 +23,11 @@ Script = Part → Option Event
 
 -- ---- refusals
 
+-- what a search names
+abbrev pub target_name : Target → List ℕ
+target_name (Index index) = index
+target_name (Pit number) = id_text number
+
 -- what an event names: an index, or the id of a point in time
 abbrev pub name_of : Event → List ℕ
 name_of (event.Create index shards mapping) = index
@@ -29,7 +35,7 @@ name_of (event.Write index id change) = index
 name_of (event.Seal index) = index
 name_of (event.Publish index shard upto) = index
 name_of (event.OpenPit index keep) = index
-name_of (event.Search (Pit number) request) = id_text number
+name_of (event.Search target request) = target_name target
 name_of event.Quiet = []
 
 -- why a reply refuses its event
@@ -38,6 +44,7 @@ refusal name reply.Spent = Some fault.Spent
 refusal name reply.NoIndex = Some (fault.NoIndex name)
 refusal name reply.Exists = Some (fault.Exists name)
 refusal name (reply.BadDoc doc) = Some (fault.BadDoc doc)
+refusal name reply.BadQuery = Some fault.BadQuery
 refusal name reply.Missing = Some (fault.NoContext name)
 refusal name (reply.TooMany limit) = Some (fault.TooMany limit)
 refusal name reply.ShardFull = Some fault.ShardFull

@@ -6,7 +6,8 @@ use Rattle.list_machine.specs.declared.event.Event.TheVariants as event
 use Rattle.list_machine.specs.declared.event.Change.TheVariants as change
 use Rattle.list_machine.specs.declared.event.Reply.{Reply}
 use Rattle.list_machine.specs.declared.event.Reply.TheVariants as reply
-use Rattle.list_machine.specs.declared.event.Target.TheVariants.{Pit}
+use Rattle.list_machine.specs.declared.event.Target.{Target}
+use Rattle.list_machine.specs.declared.event.Target.TheVariants.{Index, Pit}
 use Rattle.list_machine.specs.declared.event.Limits.{Limits}
 use Rattle.list_machine.specs.Run.{History, state_of}
 use Rattle.list_machine.specs.Serving.{GrowsBeside, applied}
@@ -17,13 +18,12 @@ use Rattle.reply_json.specs.declared.response.Response.TheVariants as response
 use Rattle.reply_json.specs.declared.response.Response.TheVariants.{Fault}
 use Rattle.reply_json.specs.declared.response.RouteName.{RouteName}
 use Rattle.reply_json.specs.declared.response.RouteName.TheVariants as route
-use Rattle.reply_json.specs.Ids.{id_text}
 use Rattle.reply_json.specs.Documents.{wrote_status}
 use Rattle.es_rest.specs.declared.ask.Ask.{Ask}
 use Rattle.es_rest.specs.declared.ask.Ask.TheVariants.{Create, Put, Remove, Bulk, Refresh, OpenPit, Search}
 use Rattle.es_rest.specs.Items.{changed_by, items_in, items_of, lines_of, writes_of}
 use Rattle.es_rest.specs.Route.{asked_of}
-use Rattle.es_rest.specs.Scripts.{CutShort, Part, Script, Talks, each, is_refused, refreshes, refusal, refused}
+use Rattle.es_rest.specs.Scripts.{CutShort, Part, Script, Talks, each, is_refused, refreshes, refusal, refused, target_name}
 
 -- ---- what is asked
 
@@ -74,6 +74,11 @@ abbrev pub seal_answer : Part → Response
 seal_answer [] = response.Fault fault.NotBuilt
 seal_answer (said ∷ part) = response.Json (status_of said.1) said.1 route.Refresh
 
+-- how the answer of a search is printed
+abbrev pub search_route : Target → RouteName
+search_route (Index index) = route.Search None
+search_route (Pit number) = route.Search (Some number)
+
 -- what the replies are answered, where no refresh was refused
 abbrev pub answer_of : Ask → List Reply → Part → Response
 answer_of (Create index spec) replies part = one_answer index (route.Create index) replies
@@ -82,7 +87,7 @@ answer_of (Remove index id refresh) replies part = one_answer index (route.Remov
 answer_of (Bulk index body refresh) replies part = response.Bulk (lines_of (items_in (items_of index body)) replies)
 answer_of (Refresh index) replies part = seal_answer part
 answer_of (OpenPit index keep) replies part = one_answer index route.OpenPit replies
-answer_of (Search (Pit number) request) replies part = one_answer (id_text number) (route.Search number) replies
+answer_of (Search target request) replies part = one_answer (target_name target) (search_route target) replies
 
 abbrev pub or_fault : Option RestFault → Response → Response
 or_fault (Some why) answer = response.Fault why

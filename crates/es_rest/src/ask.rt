@@ -3,12 +3,12 @@ ghost use Rattle.doc_json.specs.Documents.{doc_of};
 ghost use Rattle.doc_json.specs.Indexes.{index_of};
 ghost use Rattle.es_rest.specs.Items.{body_fault, items_from, named};
 ghost use Rattle.es_rest.specs.Paths.{all_routes, params_of, part, place_of, refresh_in};
-ghost use Rattle.es_rest.specs.Route.{Answers, AsksSound, asked_at, asked_at_index, asked_of, bulk_asked, check_built, create_asked, create_of, doc_asked, gets_or_posts, id_in, index_bulk_asked, index_in, is_blank, is_method, is_opening, is_own_word, named_index, no_body, opening_asked, put_asked, put_of, puts_or_posts, refresh_asked, remove_asked, remove_of, search_asked, some_body, wanted_asked};
+ghost use Rattle.es_rest.specs.Route.{Answers, AsksSound, asked_at, asked_at_index, asked_of, bulk_asked, check_built, create_asked, create_of, doc_asked, gets_or_posts, id_in, index_bulk_asked, index_in, is_blank, is_method, is_opening, is_own_word, named_index, no_body, no_params, opening_asked, put_asked, put_of, puts_or_posts, refresh_asked, remove_asked, remove_of, some_body};
 
-use crate::body::{Wanted, search_of};
 use crate::items::{body_fault, check_items, named};
 use crate::params::{has_param, params_of, refresh_in};
 use crate::paths::{Place, decoded, part, place_of, routes};
+use crate::search::{check_search, index_search_asked, pit_search_asked};
 use doc_json::{BodyFault, IndexSpec, read_doc, read_index};
 use es_types::{Bytes, Copied, Doc, DocId, Fail, IndexName, KeepAlive, LimitName, Text};
 use http_wire::Request;
@@ -66,7 +66,7 @@ fn puts_or_posts(request: &Request) -> bool
     is_method("PUT", request) || is_method("POST", request)
 }
 
-fn gets_or_posts(request: &Request) -> bool
+pub fn gets_or_posts(request: &Request) -> bool
     ensures { result ≡ gets_or_posts request.now }
 {
     is_method("GET", request) || is_method("POST", request)
@@ -88,7 +88,7 @@ fn is_own_word(request: &Request) -> bool
     }
 }
 
-fn index_in(alloc: Global, request: &Request) -> Result<Text, RestFault>
+pub fn index_in(alloc: Global, request: &Request) -> Result<Text, RestFault>
     ensures { Answers result (index_in request.now) }
 {
     decoded(alloc, "index", path_part(request, 1))
@@ -106,6 +106,13 @@ fn refresh_of(alloc: Global, taken: bool, request: &Request) -> Result<bool, Res
 {
     let params = params_of(alloc, request.query.as_slice())?;
     refresh_in(alloc, taken, None, &params)
+}
+
+/// No parameter is taken.
+pub fn no_params(alloc: Global, request: &Request) -> Result<bool, RestFault>
+    ensures { Answers result (no_params request.now) }
+{
+    refresh_of(alloc, false, request)
 }
 
 fn is_blank(bytes: &[u8]) -> bool
@@ -135,7 +142,7 @@ fn some_body(request: &Request) -> Result<bool, RestFault>
     }
 }
 
-fn named_index(index: Text) -> Result<IndexName, RestFault>
+pub fn named_index(index: Text) -> Result<IndexName, RestFault>
     ensures { Answers result (named_index index index) }
 {
     match IndexName::make(index) {
@@ -281,35 +288,6 @@ fn opening_asked(alloc: Global, request: &Request) -> Result<Ask, RestFault>
     })
 }
 
-fn wanted_asked(wanted: Option<Wanted>) -> Result<Ask, RestFault>
-    ensures answer { Answers result (wanted_asked wanted) }
-    ensures sound { IfOk result AsksSound }
-{
-    match wanted {
-        Some(wanted) => Ok(Ask::Search {
-            target: Target::Pit {
-                number: wanted.number,
-            },
-            request: SearchRequest {
-                size: wanted.size,
-                after: wanted.after,
-            },
-        }),
-        None => Err(RestFault::NotBuilt),
-    }
-}
-
-fn search_asked(alloc: Global, newest: u64, request: &Request) -> Result<Ask, RestFault>
-    ensures answer { Answers result (search_asked newest request.now) }
-    ensures sound { IfOk result AsksSound }
-{
-    if !is_method("POST", request) || request.has_query {
-        return Err(RestFault::NotBuilt);
-    }
-    let wanted = search_of(alloc, newest, request.body.as_slice())?;
-    wanted_asked(wanted)
-}
-
 // A parameter that isn't built yet, on a route that takes it.
 fn check_built(alloc: Global, taken: bool, request: &Request) -> Result<(), RestFault>
     ensures { Answers result (check_built taken request.now) }
@@ -337,8 +315,8 @@ fn doc_asked(alloc: Global, request: &Request) -> Result<Ask, RestFault>
 }
 
 // What a request of a route that begins with an index asks for.
-fn indexed(alloc: Global, request: &Request, place: Place) -> Result<Ask, RestFault>
-    ensures answer { Answers result (asked_at_index request.now place) }
+fn indexed(alloc: Global, newest: u64, request: &Request, place: Place) -> Result<Ask, RestFault>
+    ensures answer { Answers result (asked_at_index newest request.now place) }
     ensures sound { IfOk result AsksSound }
 {
     match place {
@@ -354,6 +332,10 @@ fn indexed(alloc: Global, request: &Request, place: Place) -> Result<Ask, RestFa
         Place::Refresh => {
             check_built(alloc, gets_or_posts(request), request)?;
             refresh_asked(alloc, request)
+        }
+        Place::IndexSearch => {
+            check_search(alloc, true, request)?;
+            index_search_asked(alloc, newest, request)
         }
         _ => Err(RestFault::NotBuilt),
     }
@@ -375,12 +357,15 @@ fn asked_at(
             bulk_asked(alloc, None, request)
         }
         Some(Place::OpenPit) => opening_asked(alloc, request),
-        Some(Place::Search) => search_asked(alloc, newest, request),
+        Some(Place::Search) => {
+            check_search(alloc, false, request)?;
+            pit_search_asked(alloc, newest, request)
+        }
         Some(place) => {
             if is_own_word(request) {
                 return Err(RestFault::NotBuilt);
             }
-            indexed(alloc, request, place)
+            indexed(alloc, newest, request, place)
         }
     }
 }

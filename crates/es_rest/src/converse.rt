@@ -5,7 +5,8 @@ ghost use Rattle.es_rest.specs.declared.ask.Ask.TheVariants as asks;
 ghost use Rattle.es_rest.specs.Led.{IsLabel};
 ghost use Rattle.es_rest.specs.Paths.{all_routes};
 ghost use Rattle.es_rest.specs.Route.{AsksSound};
-ghost use Rattle.es_rest.specs.Talk.{Conversation, Interrupted, Responds, settled, status_of};
+ghost use Rattle.es_rest.specs.Scripts.{target_name};
+ghost use Rattle.es_rest.specs.Talk.{Conversation, Interrupted, Responds, search_route, settled, status_of};
 
 use crate::ask::{Ask, routed};
 use crate::bulk::bulk;
@@ -203,6 +204,26 @@ fn open_pit<V: Service>(
     )
 }
 
+fn search_label(alloc: Global, target: &Target) -> Result<Label, NoMemory>
+    ensures name { IfOk result (λ label. label.name ≡ target_name target.now) }
+    ensures route { IfOk result (λ label. label.route ≡ search_route target.now) }
+    ensures refreshed { IfOk result (λ label. label.refreshed.items ≡ []) }
+{
+    let refreshed = Vec::new(alloc);
+    match target {
+        Target::Index(index) => Ok(Label {
+            name: index.text().copy(alloc)?,
+            route: RouteName::Search { pit: None },
+            refreshed,
+        }),
+        Target::Pit { number } => Ok(Label {
+            name: id_text(alloc, *number)?,
+            route: RouteName::Search { pit: Some(*number) },
+            refreshed,
+        }),
+    }
+}
+
 fn search<V: Service>(
     alloc: Global,
     service: &mut V,
@@ -216,12 +237,7 @@ fn search<V: Service>(
     ensures seat { V.seat service.new ≡ V.seat service.old }
     ensures limits { V.limits service.new ≡ V.limits service.old }
 {
-    let Target::Pit { number } = &target;
-    let label = Label {
-        name: id_text(alloc, *number)?,
-        route: RouteName::Search { pit: *number },
-        refreshed: Vec::new(alloc),
-    };
+    let label = search_label(alloc, &target)?;
     ask_one(
         alloc,
         service,

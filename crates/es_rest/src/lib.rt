@@ -3,15 +3,14 @@
 #![tactic(auto)]
 
 mod ask;
-mod body;
 mod bulk;
 mod connection;
 mod converse;
-mod ids;
 mod items;
 mod params;
 mod paths;
 mod refresh;
+mod search;
 
 pub use ask::{Ask, route};
 pub use connection::{ConnEnd, serve_connection};

@@ -25,6 +25,8 @@ pub enum Place {
     OpenPit,
     /// `/_search`
     Search,
+    /// `/{index}/_search`
+    IndexSearch,
 }
 
 /// The routes that are built.
@@ -40,6 +42,7 @@ pub fn routes(alloc: Global) -> Result<Router<Place>, NoMemory>
     add(&mut router, "/{index}/_refresh", Place::Refresh)?;
     add(&mut router, "/{index}/_pit", Place::OpenPit)?;
     add(&mut router, "/_search", Place::Search)?;
+    add(&mut router, "/{index}/_search", Place::IndexSearch)?;
     Ok(router)
 }
 

@@ -17,6 +17,7 @@ pub fn refusal(name: Text, reply: &Reply) -> Option<RestFault>
         Reply::NoIndex => Some(RestFault::NoIndex(name)),
         Reply::Exists => Some(RestFault::Exists(name)),
         Reply::BadDoc(fault) => Some(RestFault::BadDoc(*fault)),
+        Reply::BadQuery => Some(RestFault::BadQuery),
         Reply::Missing => Some(RestFault::NoContext(name)),
         Reply::TooMany { limit } => Some(RestFault::TooMany(*limit)),
         Reply::ShardFull => Some(RestFault::ShardFull),
@@ -34,6 +35,7 @@ pub fn is_refused(reply: &Reply) -> bool
         | Reply::Exists
         | Reply::Missing
         | Reply::BadDoc(_)
+        | Reply::BadQuery
         | Reply::TooMany { limit: _ }
         | Reply::ShardFull => true,
         _ => false,

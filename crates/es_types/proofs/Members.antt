@@ -1,7 +1,6 @@
 -- What one more member, in front of the others, gives the fields.
-use Rattle.std.proofs.Common.{◌≡◌, ◌≢◌, ℕ, ◌<◌, Bool, true, false, List, [], ◌∷◌, length, get_or, set, map, replicate, drop, Bor, ◌+◌, ◌-◌, ◌≤◌, Less, suc, zero, refl, sym, ◌∙◌, arith}
+use Rattle.std.proofs.Common.{◌≡◌, ◌≢◌, ℕ, ◌<◌, true, List, [], ◌∷◌, length, get_or, set, map, replicate, drop, Bor, ◌+◌, ◌-◌, ◌≤◌, Less, suc, zero, refl, sym, ◌∙◌, arith}
 use Rattle.std.specs.List.{All, HoldsAt}
-use Rattle.std.specs.Str.{bytes_eq}
 use Rattle.std.proofs.lemmas.List.{drop_more}
 use Rattle.std.proofs.lemmas.List.Elements.{All-weaker}
 use Rattle.std.proofs.lemmas.Slice.Eq.{bytes_eq-Decides}
@@ -11,11 +10,7 @@ use Rattle.es_types.specs.declared.mapping.Field.{Field}
 use Rattle.es_types.specs.declared.doc.DocValue.{DocValue}
 use Rattle.es_types.specs.declared.doc.DocValue.TheVariants.{Null}
 use Rattle.es_types.specs.declared.doc.Member.{Member}
-use Rattle.es_types.proofs.Names.{below_rest, by_bytes, less_differs, rest_rises}
-
-bytes_eq_false : (a b : List ℕ) (test : Bool) → bytes_eq a b ≡ test → a ≢ b → test ≡ false
-bytes_eq_false a b true is differs = absurd (differs ((bytes_eq-Decides a b).0 is))
-bytes_eq_false a b false is differs = refl
+use Rattle.es_types.proofs.Names.{below_rest, by_bytes, bytes_eq_false, less_differs, rest_rises}
 
 -- a member of another name gives a field nothing, and one of its name its value
 value_passed : (name : List ℕ) (member : Member) (members : List Member) → member.name ≢ name → value_named name (member ∷ members) ≡ value_named name members

@@ -1,17 +1,22 @@
 -- What follows where the names of fields rise, and what a search by halves finds among them.
-use Rattle.std.proofs.Common.{◌≡◌, ◌≢◌, ℕ, Bool, true, false, ◌&&◌, List, [], ◌∷◌, length, get_or, Result, Ok, Err, Ordering, Less, Equal, Greater, suc, zero, refl, sym, subst, inl, inr, arith}
+use Rattle.std.proofs.Common.{◌≡◌, ◌≢◌, ℕ, nat_le, Bool, true, false, ◌&&◌, List, [], ◌∷◌, length, get_or, Option, Some, None, Result, Ok, Err, Ordering, Less, Equal, Greater, suc, zero, refl, sym, ◌∙◌, subst, ◌<◌, ◌≤◌, inl, inr, arith}
 use Rattle.std.specs.Cmp.Lexicographic.{slice_cmp}
-use Rattle.std.specs.List.{All}
+use Rattle.std.specs.List.{All, position, position_or_len}
+use Rattle.std.specs.Str.{bytes_eq}
 use Rattle.std.specs.List.Sorted.{IsSortedBy, IsBinarySearchResult, IsSearchInRange}
 use Rattle.std.specs.Ordering.{nat_cmp, is_lt}
 use Rattle.std.specs.Result.{result_ok}
 use Rattle.std.proofs.lemmas.Bool.{cases_lt}
+use Rattle.std.proofs.lemmas.Bool.Decides.{nat_tests}
 use Rattle.std.proofs.lemmas.Cmp.{nat_list_cmp_total, tied_itself}
 use Rattle.std.proofs.lemmas.List.Elements.{All-nil, All-cons, All-weaker}
+use Rattle.std.proofs.lemmas.List.Quantifiers.{position-Some}
 use Rattle.std.proofs.lemmas.List.Sorted.{searchable_from_sorted}
+use Rattle.std.proofs.lemmas.List.Sums.{fails_before_first, position_or_len_is}
 use Rattle.std.proofs.lemmas.Map.Lookups.{exact_bytes}
+use Rattle.std.proofs.lemmas.Slice.Eq.{bytes_eq-Decides}
 use native.Mathlib.Numerals.{unary_clauses}
-use Rattle.es_types.specs.Fields.{names_rise}
+use Rattle.es_types.specs.Fields.{is_mapping, names_rise}
 use Rattle.es_types.specs.Fit.{IsPlaceOf}
 use Rattle.es_types.specs.declared.mapping.Field.{Field}
 
@@ -72,3 +77,61 @@ place_searched name fields (Err gap) rise in_range found =
       | inl before ↦ (let less : by_bytes (get_or fields k d).name name ≡ Less = parted.0 k d (omega arith) before in cc)
       | inr after ↦ (let greater : by_bytes (get_or fields k d).name name ≡ Greater = parted.1 k d after in_range in cc)
     ]
+
+pub bytes_eq_false : (a b : List ℕ) (test : Bool) → bytes_eq a b ≡ test → a ≢ b → test ≡ false
+bytes_eq_false a b true is differs = absurd (differs ((bytes_eq-Decides a b).0 is))
+bytes_eq_false a b false is differs = refl
+
+-- a field is below each one that stands behind it
+below_later : (fields : List Field) (k at : ℕ) (d : Field) → names_rise fields ≡ true → k < at → at < length fields → by_bytes (get_or fields k d).name (get_or fields at d).name ≡ Less
+below_later [] k at d rise before in_range = absurd (omega arith)
+below_later (field ∷ fields) k zero d rise before in_range = absurd (omega arith)
+below_later (field ∷ fields) zero (suc at) d rise before in_range = below_rest field fields rise at d (omega arith)
+below_later (field ∷ fields) (suc k) (suc at) d rise before in_range = below_later fields k at d (rest_rises field fields rise) (omega arith) (omega arith)
+
+position_found : (test : Field → Bool) (fields : List Field) (at : ℕ) → position_or_len test fields ≡ at → at < length fields → Some at ≡ position test fields
+position_found test fields at is in_range = grind (arith, nat_tests)
+
+position_missing : (test : Field → Bool) (fields : List Field) → position_or_len test fields ≡ length fields → None ≡ position test fields
+position_missing test fields is = grind (arith, nat_tests)
+
+-- where names rise, a field of a name is the first of it
+pub position_placed : (name : List ℕ) (fields : List Field) (place : Option ℕ) → names_rise fields ≡ true → IsPlaceOf name fields place → place ≡ position (λ field. bytes_eq field.name name) fields
+position_placed name [] None rise none = refl
+position_placed name [] (Some at) rise found = absurd (omega (arith, found.0))
+position_placed name (field ∷ fields) None rise none =
+    position_missing (λ field. bytes_eq field.name name) (field ∷ fields)
+    (position_or_len_is (λ field. bytes_eq field.name name) (field ∷ fields) (length (field ∷ fields)) field (omega arith)
+    (λ k in_range. bytes_eq_false _ name _ refl (none k field in_range)) (λ in_range. absurd (omega arith)))
+position_placed name (field ∷ fields) (Some at) rise found =
+    position_found (λ field. bytes_eq field.name name) (field ∷ fields) at
+    (position_or_len_is (λ field. bytes_eq field.name name) (field ∷ fields) at field (omega (arith, found.0))
+    (λ k before. bytes_eq_false _ name _ refl (λ same. less_differs _ _ (below_later (field ∷ fields) k at field rise before found.0) (same ∙ sym (found.1 field))))
+    (λ in_range. (bytes_eq-Decides _ name).1 (found.1 field))) found.0
+
+position_past : (test : Field → Bool) (fields : List Field) → None ≡ position test fields → length fields ≤ position_or_len test fields
+position_past test fields is = grind (arith, nat_tests)
+
+no_some : (at : ℕ) → Some at ≡ None → ⊥
+no_some at is = cc
+
+-- the first field of a name is one of it
+pub placed_from_position : (name : List ℕ) (fields : List Field) (place : Option ℕ) → place ≡ position (λ field. bytes_eq field.name name) fields → IsPlaceOf name fields place
+placed_from_position name fields None is = λ k d in_range same.
+    let past = position_past (λ field. bytes_eq field.name name) fields is in
+    let fails = fails_before_first (λ field. bytes_eq field.name name) fields k d (omega arith) in
+    let passes = (bytes_eq-Decides (get_or fields k d).name name).1 same in
+    cc
+placed_from_position name [] (Some at) is = absurd (no_some at is)
+placed_from_position name (field ∷ fields) (Some at) is =
+    let facts = λ (d : Field). position-Some (λ field. bytes_eq field.name name) (field ∷ fields) at d (sym is) in
+    ((facts field).0, λ d. (bytes_eq-Decides (get_or (field ∷ fields) at d).name name).0 (facts d).1)
+
+pub mapping_rises : (fields : List Field) → is_mapping fields ≡ true → names_rise fields ≡ true
+mapping_rises fields is = (both_from_and (nat_le (length fields) 1000) (names_rise fields) is).1
+
+-- a search by halves finds the first field of a name
+pub first_searched : (name : List ℕ) (fields : List Field) (found : Result ℕ ℕ) → is_mapping fields ≡ true → IsSearchInRange found (length fields) → IsBinarySearchResult (λ field. by_bytes field.name name) fields found → result_ok found ≡ position (λ field. bytes_eq field.name name) fields
+first_searched name fields found is in_range searched =
+    let rise = mapping_rises fields is in
+    position_placed name fields (result_ok found) rise (place_searched name fields found rise in_range searched)

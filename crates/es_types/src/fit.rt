@@ -1,8 +1,8 @@
 ghost use Rattle.std.specs.Prelude.{◌≡◌, ◌≤◌, length, map, List, IfOk, IsTrue};
 ghost use Rattle.es_types.specs.declared.doc.Member.{Member};
-ghost use Rattle.es_types.specs.Fields.{fit, names_rise, value_of};
+ghost use Rattle.es_types.specs.Fields.{fit, value_of};
 ghost use Rattle.es_types.specs.Fail.{Answers};
-ghost use Rattle.es_types.specs.Fit.{IsPlaceOf, values_named};
+ghost use Rattle.es_types.specs.Fit.{values_named};
 
 use crate::{
     Copied, Doc, DocValue, Fail, Field, FieldKind, Items, Mapping, Member, NoMemory, Value,
@@ -37,9 +37,8 @@ pub fn fit_doc(alloc: Global, mapping: &Mapping, doc: &Doc) -> Result<Items<Valu
     ensures { Answers result (fit mapping.now doc.now.members) }
 {
     let null = DocValue::Null;
-    let fields = mapping.fields();
-    let given = given_values(alloc, &null, fields, doc.members.as_slice())?;
-    values_of(alloc, fields, &given)
+    let given = given_values(alloc, &null, mapping, doc.members.as_slice())?;
+    values_of(alloc, mapping.fields(), &given)
 }
 
 // The value of each field's first member, or `null`. The members are gone through from the last to the first, so that of two of
@@ -47,31 +46,20 @@ pub fn fit_doc(alloc: Global, mapping: &Mapping, doc: &Doc) -> Result<Items<Valu
 fn given_values<'a>(
     alloc: Global,
     null: &'a DocValue,
-    fields: &[Field],
+    mapping: &Mapping,
     members: &'a [Member],
 ) -> Result<Vec<&'a DocValue>, NoMemory>
-    requires null { null.now ≡ DocValue.Null }
-    requires rise { IsTrue (names_rise fields.now) }
-    ensures { IfOk result (λ given. map (λ value. value.now) given.items ≡ values_named fields.now members.now) }
+    requires { null.now ≡ DocValue.Null }
+    ensures { IfOk result (λ given. map (λ value. value.now) given.items ≡ values_named mapping.now members.now) }
 {
-    let mut given = vec![in alloc; null; fields.len()]?;
+    let mut given = vec![in alloc; null; mapping.fields().len()]?;
     for i in (0..members.len()).rev() {
         let member = &members[i];
-        if let Some(place) = place_of(fields, member.name.as_str()) {
+        if let Some(place) = mapping.place_of(member.name.as_str()) {
             given[place] = &member.value;
         }
     }
     Ok(given)
-}
-
-// The place of the field of that name.
-fn place_of(fields: &[Field], name: &str) -> Option<usize>
-    requires { IsTrue (names_rise fields.now) }
-    ensures { IsPlaceOf name.now fields.now result }
-{
-    fields
-        .binary_search_by(|field| field.name.text().as_str().cmp(name))
-        .ok()
 }
 
 // The values of the fields, from what they are given.

@@ -1,6 +1,7 @@
 //! What the service's crates speak of in common: texts, lists, names, times, mappings, documents, rows and operations.
 #![tactic(auto)]
 
+mod bounds;
 mod copied;
 mod doc;
 mod fail;
@@ -14,6 +15,7 @@ mod row;
 mod text;
 mod time;
 
+pub use bounds::{Bound, Bounds};
 pub use copied::Copied;
 pub use doc::{Doc, DocValue, Member};
 pub use fail::{Fail, NoMemory};

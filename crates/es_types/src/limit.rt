@@ -9,4 +9,8 @@ pub enum LimitName {
     Shards,
     /// The fields of a mapping: at most 1,000, of names as [`FieldName`](crate::FieldName) takes them.
     Fields,
+    /// A point in time beside an index, or neither of them.
+    Pit,
+    /// How many hits a search asks for: at most 10,000.
+    Window,
 }

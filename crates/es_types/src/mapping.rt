@@ -1,5 +1,6 @@
-ghost use Rattle.std.specs.Prelude.{◌≡◌, ◌+◌, ◌<◌, [], length, slice_index_or, MatchResult, IsTrue, IsFalse};
+ghost use Rattle.std.specs.Prelude.{◌≡◌, ◌+◌, ◌<◌, [], bytes_eq, length, slice_index_or, MatchResult, IsTrue, IsFalse};
 ghost use Rattle.std.specs.Cmp.Lexicographic.{slice_cmp};
+ghost use Rattle.std.specs.List.{position};
 ghost use Rattle.std.specs.Ordering.{nat_cmp};
 ghost use Rattle.es_types.specs.Fields.{is_mapping, names_rise};
 
@@ -70,6 +71,15 @@ impl Mapping {
         ensures valid { IsTrue (is_mapping self.now) }
     {
         self.fields.as_slice()
+    }
+
+    /// The place of the field of that name, by a search by halves.
+    pub fn place_of(&self, name: &str) -> Option<usize>
+        ensures { result ≡ position (λ field. bytes_eq field.name name.now) self.now }
+    {
+        self.fields()
+            .binary_search_by(|field| field.name.text().as_str().cmp(name))
+            .ok()
     }
 }
 

@@ -1,7 +1,7 @@
 -- The header lines of a head, and the number that a length is.
-use Rattle.std.proofs.Common.{◌≡◌, ℕ, ◌+◌, ◌-◌, ◌*◌, ◌<◌, ◌≤◌, ◌&&◌, ◌||◌, not, suc, Bool, true, false, cond, ltb, leb, List, [], ◌∷◌, length, drop, get_or, Option, Some, None, refl, sym, ap, ◌∙◌, arith}
+use Rattle.std.proofs.Common.{◌≡◌, ℕ, ◌+◌, ◌-◌, ◌*◌, ◌<◌, ◌≤◌, ◌&&◌, Bool, true, false, cond, ltb, leb, List, [], ◌∷◌, length, drop, get_or, Option, Some, None, refl, sym, ap, ◌∙◌, arith}
 use Rattle.std.specs.Char.{digit_value, is_ascii_digit}
-use Rattle.std.specs.List.{list_all, list_any, position_or_len}
+use Rattle.std.specs.List.{list_all}
 use Rattle.std.specs.Str.Parse.{digits_value, digits_value_after}
 use Rattle.std.proofs.lemmas.Bool.{and_right, cond-false, cond-true, lt-leb, lt-ltb, le-ltb, leb-true, and_parts}
 use Rattle.std.proofs.lemmas.List.{drop_more}
@@ -62,17 +62,4 @@ number_small digits n h =
           let d = leb-true (digits_value 10 digits) body_limit c.1 in
           omega (arith, d, same)
       | false ↦ λ e. let is : ◌≡◌ {A = Option ℕ} None (Some n) = picked false e in let no : ⊥ = cc in absurd no
-    ] refl
-
--- no mark is found where the place of the first is the end
-pub no_mark : {X : Type 0} (test : X → Bool) (xs : List X) → position_or_len test xs ≡ length xs → list_any test xs ≡ false
-no_mark test [] h = refl
-no_mark test (x ∷ xs) h =
-    elim (test x) as (λ v. test x ≡ v → (v || list_any test xs) ≡ false) [
-      | true ↦ λ e.
-          let k : 0 ≡ length (x ∷ xs) = ap (λ v. cond (not v) (1 + position_or_len test xs) 0) (sym e) ∙ h in
-          let no : ⊥ = omega (arith, k) in absurd no
-      | false ↦ λ e.
-          let k : 1 + position_or_len test xs ≡ suc (length xs) = ap (λ v. cond (not v) (1 + position_or_len test xs) 0) (sym e) ∙ h in
-          no_mark test xs (omega (arith, k))
     ] refl

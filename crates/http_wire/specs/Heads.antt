@@ -53,9 +53,6 @@ path_of target = take_while (λ b. not (is_mark b)) target
 abbrev pub query_of : List ℕ → List ℕ
 query_of target = drop (length (path_of target) + 1) target
 
-abbrev pub has_query : List ℕ → Bool
-has_query target = list_any is_mark target
-
 -- what a head says: the method, the target, and the length of the body
 pub record Head : Type 0 where
   pub method : List ℕ

@@ -1,7 +1,7 @@
 -- A request, and which requests the bytes of a connection are.
 use Rattle.std.specs.Prelude.{◌≡◌, ◌⊎◌, ℕ, ◌+◌, ◌<◌, ◌≤◌, false, List, [], ◌∷◌, ◌++◌, length, take, Some, None}
 use Rattle.http_wire.specs.declared.request.Request.{Request}
-use Rattle.http_wire.specs.Heads.{Head, IsHead, head_len, path_of, query_of, has_query}
+use Rattle.http_wire.specs.Heads.{Head, IsHead, head_len, path_of, query_of}
 
 -- in how many bytes a head ends, and how many bytes a connection may send
 abbrev pub head_limit : ℕ
@@ -22,7 +22,6 @@ request_of head body = record {
   method = head.method;
   path = path_of head.target;
   query = query_of head.target;
-  has_query = has_query head.target;
   moment = None;
   body = body;
   last = false;

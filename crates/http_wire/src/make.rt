@@ -1,6 +1,6 @@
 ghost use Rattle.std.specs.Prelude.{◌≡◌, length, IfSome, IsUtf8};
 ghost use Rattle.http.specs.Token.{IsToken};
-ghost use Rattle.http_wire.specs.Heads.{has_query, path_of, query_of};
+ghost use Rattle.http_wire.specs.Heads.{path_of, query_of};
 ghost use Rattle.http_wire.specs.Requests.{request_of};
 
 use crate::Request;
@@ -25,12 +25,11 @@ pub(crate) fn make_request(
     let Ok(target) = str::from_utf8(target) else {
         unreachable!()
     };
-    let (path, query, has_query) = split_target(target);
+    let (path, query) = split_target(target);
     Some(Request {
         method,
         path: make_text(alloc, path)?,
         query: make_bytes(alloc, query)?,
-        has_query,
         moment: None,
         body: make_bytes(alloc, body)?,
         last: false,
@@ -48,15 +47,14 @@ fn make_method(alloc: Global, method: &[u8]) -> Option<Method>
     }
 }
 
-/// The path, the query, and whether there is one.
-fn split_target(target: &str) -> (&str, &[u8], bool)
+/// The path and the query.
+fn split_target(target: &str) -> (&str, &[u8])
     ensures path { result.0.now ≡ path_of target.now }
     ensures query { result.1.now ≡ query_of target.now }
-    ensures mark { result.2 ≡ has_query target.now }
 {
     match target.split_once('?') {
-        Some((path, query)) => (path, query.as_bytes(), true),
-        None => (target, &[], false),
+        Some((path, query)) => (path, query.as_bytes()),
+        None => (target, &[]),
     }
 }
 

@@ -8,8 +8,6 @@ pub struct Request {
     pub method: Method,
     pub path: Text,
     pub query: Bytes,
-    /// Whether the target has a `?`.
-    pub has_query: bool,
     pub moment: Option<Bytes>,
     pub body: Bytes,
     pub last: bool,

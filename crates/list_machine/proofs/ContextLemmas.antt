@@ -3,14 +3,12 @@ use Rattle.std.proofs.Common.{◌≡◌, ◌≢◌, ℕ, ◌<◌, ◌≤◌, Boo
 use Rattle.std.specs.List.{find}
 use Rattle.std.specs.Option.{option_map}
 use Rattle.list_machine.specs.declared.event.Reply.{Reply}
-use Rattle.list_machine.specs.declared.event.Reply.TheVariants.{Found, Missing, Opened, TooMany}
-use Rattle.list_machine.specs.declared.search.Answer.{Answer}
+use Rattle.list_machine.specs.declared.event.Reply.TheVariants.{Missing, Opened, TooMany}
 use Rattle.list_machine.specs.declared.search.SearchRequest.{SearchRequest}
-use Rattle.list_machine.specs.declared.store.ContextStore.{ContextStore}
+use Rattle.list_machine.specs.declared.context.ContextStore.{ContextStore}
 use Rattle.list_machine.specs.State.{Index, State, context_of, live_contexts}
-use Rattle.list_machine.specs.Step.{open_pit, search_pit}
-use Rattle.list_machine.specs.Stores.{context_seen, contexts_seen}
-use Rattle.list_machine.specs.Views.{answer}
+use Rattle.list_machine.specs.Step.{open_pit, search_pit, search_reply}
+use Rattle.list_machine.specs.Stores.{context_seen, contexts_seen, view_seen}
 use Rattle.list_machine.proofs.Moves.{opened}
 
 -- the context of a number among those that are seen
@@ -29,12 +27,12 @@ pub context_of-is : (number : ℕ) (stores : List ContextStore) (copied : Option
 context_of-is number stores copied is = context_of-seen number stores ∙ ap (option_map context_seen) (sym is)
 
 -- a live context is searched
-pub search_finds : (seen : State) (context : ContextStore) (request : SearchRequest) (it : Answer) → seen.moment ≤ context.expiry
-    → it ≡ answer (context_seen context).view request 0
-    → search_pit seen request (Some (context_seen context)) ≡ (seen, Found it)
-search_finds seen context request it live is =
-    let replied : Answer → State × Reply = λ them. (seen, Found them) in
-    let chosen : Bool → State × Reply = λ b. cond b (seen, Found (answer (context_seen context).view request 0)) (seen, Missing) in
+pub search_finds : (seen : State) (context : ContextStore) (request : SearchRequest) (reply : Reply) → seen.moment ≤ context.expiry
+    → reply ≡ search_reply (view_seen context) request
+    → search_pit seen request (Some (context_seen context)) ≡ (seen, reply)
+search_finds seen context request reply live is =
+    let replied : Reply → State × Reply = λ it. (seen, it) in
+    let chosen : Bool → State × Reply = λ b. cond b (seen, search_reply (view_seen context) request) (seen, Missing) in
     let lives : leb seen.moment context.expiry ≡ true = grind arith in
     ap chosen lives ∙ ap replied (sym is)
 
@@ -42,7 +40,7 @@ search_finds seen context request it live is =
 pub search_misses : (seen : State) (context : ContextStore) (request : SearchRequest) → context.expiry < seen.moment
     → search_pit seen request (Some (context_seen context)) ≡ (seen, Missing)
 search_misses seen context request late =
-    let chosen : Bool → State × Reply = λ b. cond b (seen, Found (answer (context_seen context).view request 0)) (seen, Missing) in
+    let chosen : Bool → State × Reply = λ b. cond b (seen, search_reply (view_seen context) request) (seen, Missing) in
     let ends : leb seen.moment context.expiry ≡ false = grind arith in
     ap chosen ends
 

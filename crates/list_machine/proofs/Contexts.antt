@@ -4,13 +4,14 @@ use Rattle.std.specs.Option.{option_or}
 use Rattle.std.proofs.lemmas.Bool.{cond-true, cond-false}
 use Rattle.std.proofs.lemmas.List.Elements.{All-head, All-tail}
 use Rattle.std.proofs.lemmas.List.Folds.{find-append}
+use Rattle.es_query.specs.Fits.{fits}
 use Rattle.list_machine.specs.declared.event.Reply.{Reply}
-use Rattle.list_machine.specs.declared.event.Reply.TheVariants.{Opened, Found, TooMany, Missing}
+use Rattle.list_machine.specs.declared.event.Reply.TheVariants.{Opened, Found, TooMany, Missing, BadQuery}
 use Rattle.list_machine.specs.declared.search.SearchRequest.{SearchRequest}
 use Rattle.list_machine.specs.declared.search.Answer.{Answer}
-use Rattle.list_machine.specs.Views.{answer}
+use Rattle.list_machine.specs.Views.{View, answer}
 use Rattle.list_machine.specs.State.{State, Index, Context, context_of, is_live, view_of}
-use Rattle.list_machine.specs.Step.{search_pit}
+use Rattle.list_machine.specs.Step.{search_pit, search_reply}
 use Rattle.list_machine.proofs.Moves.{opened}
 use Rattle.list_machine.proofs.Runs.{Later}
 
@@ -45,13 +46,21 @@ found_next state keep index h =
     ∙ ap (λ o. option_or o (context_of state.next (new ∷ []))) (none_above state.contexts state.next state.next (omega arith) h)
     ∙ cond-true (state.next == state.next) (Some new) None (eq-eqb state.next state.next refl)
 
+-- a view that answers is one that the query fits
+reply_cases : (view : View) (request : SearchRequest) (found : Answer) → search_reply view request ≡ Found found → found ≡ answer view request 0
+reply_cases view request found e = go (fits view.mapping request.query) e
+  where
+    go : (b : Bool) → cond {A = Reply} b (Found (answer view request 0)) BadQuery ≡ Found found → found ≡ answer view request 0
+    go true e = cc
+    go false e = absurd (cc)
+
 -- what a found answer is of
 pub search_cases : (state : State) (request : SearchRequest) (o : Option Context) (found : Answer) → (search_pit state request o).1 ≡ Found found → (context : Context) × (o ≡ Some context) × (found ≡ answer context.view request 0)
 search_cases state request None found e = absurd (cc)
 search_cases state request (Some context) found e = (context, refl, go (is_live state.moment context) e)
   where
-    go : (live : Bool) → (cond {A = State × Reply} live (state, Found (answer context.view request 0)) (state, Missing)).1 ≡ Found found → found ≡ answer context.view request 0
-    go true e = cc
+    go : (live : Bool) → (cond {A = State × Reply} live (state, search_reply context.view request) (state, Missing)).1 ≡ Found found → found ≡ answer context.view request 0
+    go true e = reply_cases context.view request found e
     go false e = absurd (cc)
 
 -- one list cut at two places

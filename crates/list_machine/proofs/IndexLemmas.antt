@@ -224,14 +224,18 @@ seal_is {name} {stores} {at} {store} found numbers is state =
     ∙ ap replied (sym is)
 
 -- the found index has what all have
-pub counted_at : {name : List ℕ} {stores : List IndexStore} {at : ℕ} {store : IndexStore} → IsFound name stores at store
-    → (n : ℕ) → All (IsCountedIndex n) (indexes_seen stores) → IsCountedIndex n (index_seen store)
-counted_at {name} {stores} {at} {store} found n all =
-    let P : Index → Type 0 = IsCountedIndex n in
+pub holds_at : {name : List ℕ} {stores : List IndexStore} {at : ℕ} {store : IndexStore} → IsFound name stores at store
+    → (P : Index → Type 0) → All P (indexes_seen stores) → P (index_seen store)
+holds_at {name} {stores} {at} {store} found P all =
     let Q : IndexStore → Type 0 = λ it. P (index_seen it) in
     let less : at < length stores = IsFirst-within name stores at found.first in
     let here : P (get_or (indexes_seen stores) at (index_seen store)) = all at (index_seen store) (omega (arith, length-map stores index_seen)) in
     subst Q (sym found.is) (subst P (get_or-map index_seen stores at store (index_seen store) less) here)
+
+-- it is small enough for its count
+pub counted_at : {name : List ℕ} {stores : List IndexStore} {at : ℕ} {store : IndexStore} → IsFound name stores at store
+    → (n : ℕ) → All (IsCountedIndex n) (indexes_seen stores) → IsCountedIndex n (index_seen store)
+counted_at found n all = holds_at found (IsCountedIndex n) all
 
 -- nothing is seen where the shards are seen as they were
 pub indexes_seen-same : {name : List ℕ} {stores : List IndexStore} {at : ℕ} {store : IndexStore} → IsFound name stores at store

@@ -14,3 +14,4 @@ pub mod Contexts
 pub mod PlacesInOrder
 pub mod Turns
 pub mod Sealed
+pub mod SearchLemmas

@@ -13,7 +13,7 @@ use Rattle.es_types.specs.Homes.{shard_of}
 use Rattle.list_machine.specs.declared.event.Entry.{Entry}
 use Rattle.list_machine.specs.declared.event.Event.{Event}
 use Rattle.list_machine.specs.declared.event.Event.TheVariants.{Create, Write, Seal, Publish, OpenPit, Search, Quiet}
-use Rattle.list_machine.specs.declared.event.Target.TheVariants.{Pit}
+use Rattle.list_machine.specs.declared.event.Target.TheVariants as target
 use Rattle.list_machine.specs.declared.event.Change.{Change}
 use Rattle.list_machine.specs.declared.event.Change.TheVariants.{Put, Remove}
 use Rattle.list_machine.specs.declared.event.Reply.{Reply}
@@ -21,7 +21,7 @@ use Rattle.list_machine.specs.declared.event.Reply.TheVariants.{Opened, TooMany}
 use Rattle.list_machine.specs.declared.search.SearchRequest.{SearchRequest}
 use Rattle.list_machine.specs.Rows.{Shard, last_number, publish}
 use Rattle.list_machine.specs.State.{State, Index, Context, empty_shard, id_of, index_of, put_index, context_of, is_live, live_contexts, shard_count, most_shards, view_of}
-use Rattle.list_machine.specs.Step.{is_full, op_of, put_op, append_op, create, write_shard, write_op, write, seal, publish_shard, publish_index, open_pit, search_pit, happen, at_moment, step}
+use Rattle.list_machine.specs.Step.{is_full, op_of, put_op, append_op, create, write_shard, write_op, write, seal, publish_shard, publish_index, open_pit, search_index, search_pit, happen, at_moment, step}
 
 -- what is found has what all have
 pub find_All : {X : Type 0} (P : X → Type 0) (test : X → Bool) (xs : List X) (x : X) → All P xs → find test xs ≡ Some x → P x
@@ -249,6 +249,11 @@ search_moves event state moment request None = stays event state moment
 search_moves event state moment request (Some context) =
     cond_both (is_live (at_moment state moment).moment context) _ _ (λ (r : State × Reply). Moves event state r.0) (λ _. stays event state moment) (λ _. stays event state moment)
 
+-- a search of an index, or of none, moves
+search_index_moves : (event : Event) (state : State) (moment : ℕ) (request : SearchRequest) (o : Option Index) → Moves event state (search_index (at_moment state moment) request o).0
+search_index_moves event state moment request None = stays event state moment
+search_index_moves event state moment request (Some index) = stays event state moment
+
 -- each event moves
 happen_moves : (state : State) (moment : ℕ) (event : Event) → Moves event state (happen (at_moment state moment) event).0
 happen_moves state moment (Create name shards mapping) = create_moves state moment name shards mapping (index_of name state.indexes) refl
@@ -256,7 +261,8 @@ happen_moves state moment (Write name id change) = write_moves state moment name
 happen_moves state moment (Seal name) = seal_moves state moment name (index_of name state.indexes)
 happen_moves state moment (Publish name at upto) = publish_moves state moment name at upto (index_of name state.indexes) refl
 happen_moves state moment (OpenPit name keep) = open_moves state moment name keep (index_of name state.indexes) refl
-happen_moves state moment (Search (Pit number) request) = search_moves (Search (Pit number) request) state moment request (context_of number state.contexts)
+happen_moves state moment (Search (target.Index name) request) = search_index_moves (Search (target.Index name) request) state moment request (index_of name state.indexes)
+happen_moves state moment (Search (target.Pit number) request) = search_moves (Search (target.Pit number) request) state moment request (context_of number state.contexts)
 happen_moves state moment Quiet = stays Quiet state moment
 
 -- each step is a move

@@ -1,5 +1,5 @@
 -- The places of a view stand in the order of their numbers, so those behind one are the rest.
-use Rattle.std.proofs.Common.{◌≡◌, ℕ, ◌+◌, ◌*◌, ◌<◌, ◌≤◌, ltb, pos, List, [], ◌∷◌, ◌++◌, length, Some, None, All, filter, refl, ap, ◌∙◌, arith, le-ltb, lt-ltb}
+use Rattle.std.proofs.Common.{◌≡◌, ℕ, ◌+◌, ◌*◌, ◌<◌, ◌≤◌, Bool, true, false, cond, ltb, pos, List, [], ◌∷◌, ◌++◌, length, Some, None, All, filter, refl, ap, ◌∙◌, arith, le-ltb, lt-ltb}
 use Rattle.std.proofs.lemmas.Bool.{cond-true, cond-false}
 use Rattle.std.proofs.lemmas.List.Elements.{All-head, All-tail}
 use Rattle.es_types.specs.declared.row.Row.{Row}
@@ -27,6 +27,15 @@ rising_places (rows ∷ shards) shard all =
     let few = All-head (λ (rows : List Row). length rows ≤ 4294967296) rows shards all in
     rising_shard rows (shard * 4294967296) ((shard + 1) * 4294967296) (places_from (shard + 1) shards) (omega (arith, few))
     (rising_places shards (shard + 1) (All-tail (λ (rows : List Row). length rows ≤ 4294967296) rows shards all))
+
+-- some of the places
+pub rising_filter : (p : Place → Bool) (places : List Place) (low : ℕ) → Rising low places → Rising low (filter p places)
+rising_filter p [] low r = tt
+rising_filter p (place ∷ places) low r = go (p place) (rising_filter p places (place.number + 1) r.1)
+  where
+    go : (b : Bool) → Rising (place.number + 1) (filter p places) → Rising low (cond b (place ∷ filter p places) (filter p places))
+    go true others = (r.0, others)
+    go false others = rising_below low (place.number + 1) (filter p places) (omega (arith, r.0)) others
 
 -- a place behind others
 rising_at : (front : List Place) (place : Place) (rest : List Place) (low : ℕ) → Rising low (front ++ place ∷ rest) → low ≤ place.number

@@ -1,6 +1,7 @@
 -- Pages of a point in time that are taken in turn.
-use Rattle.std.specs.Prelude.{◌≡◌, ℕ, ◌<◌, ℤ, List, [], ◌∷◌, ◌++◌, length, map, flat_map, Some, None}
+use Rattle.std.specs.Prelude.{◌≡◌, ℕ, ◌<◌, true, ℤ, List, [], ◌∷◌, ◌++◌, length, map, flat_map, Some, None}
 use Rattle.es_types.specs.declared.row.Value.TheVariants.{Long}
+use Rattle.es_query.specs.declared.query.Query.{Query}
 use Rattle.list_machine.specs.declared.event.Entry.{Entry}
 use Rattle.list_machine.specs.declared.event.Event.TheVariants.{OpenPit, Search}
 use Rattle.list_machine.specs.declared.event.Target.TheVariants.{Pit}
@@ -37,14 +38,19 @@ pub record Follows {limits : Limits} {history : History} {number : ℕ} (earlier
   pub ends : EndsAt earlier.answer.hits after
   pub begins : later.request.after ≡ Some after
 
-abbrev pub GoesOn : {limits : Limits} {history : History} {number : ℕ} → Turn limits history number → List (Turn limits history number) → Type 0
-GoesOn turn [] = Unit {0}
-GoesOn turn (next ∷ turns) = Follows turn next × GoesOn next turns
+-- the search asks for that query, and shows its places
+pub record Asks {limits : Limits} {history : History} {number : ℕ} (query : Query) (turn : Turn limits history number) : Type 0 where
+  pub query_is : turn.request.query ≡ query
+  pub shows : turn.request.show_place ≡ true
 
--- pages in turn: the first begins at the front, and each later one behind the one before
-abbrev pub InTurn : {limits : Limits} {history : History} {number : ℕ} → List (Turn limits history number) → Type 0
-InTurn [] = Unit {0}
-InTurn (turn ∷ turns) = (turn.request.after ≡ None) × GoesOn turn turns
+abbrev pub GoesOn : {limits : Limits} {history : History} {number : ℕ} → Query → Turn limits history number → List (Turn limits history number) → Type 0
+GoesOn query turn [] = Unit {0}
+GoesOn query turn (next ∷ turns) = Follows turn next × Asks query next × GoesOn query next turns
+
+-- pages of one query in turn: the first begins at the front, and each later one behind the one before
+abbrev pub InTurn : {limits : Limits} {history : History} {number : ℕ} → Query → List (Turn limits history number) → Type 0
+InTurn query [] = Unit {0}
+InTurn query (turn ∷ turns) = (turn.request.after ≡ None) × Asks query turn × GoesOn query turn turns
 
 -- the hits of the pages, joined
 abbrev pub hits_of : {limits : Limits} {history : History} {number : ℕ} → List (Turn limits history number) → List Hit
@@ -69,14 +75,14 @@ pub record Opens (limits : Limits) (history : History) (number : ℕ) (view : Vi
   pub there : index_of index (state_of limits before).indexes ≡ Some found
   pub sees : view ≡ view_of found
 
--- all hits of a view, in order
-abbrev pub documents : View → SearchRequest → List Hit
-documents view request = map (hit view) (enumeration view request)
+-- all documents of a view that match, in order, with their places
+abbrev pub documents : View → Query → List Hit
+documents view query = map (hit view true) (enumeration view query)
 
 -- Pages taken in turn are a prefix of the sorted matching documents of the frozen view, and all of them once
 -- a page is short.
 abbrev pub Enumerates : Limits → History → Type 0
 Enumerates limits history =
-    (number : ℕ) (view : View) (turns : List (Turn limits history number)) (request : SearchRequest)
-    → Opens limits history number view → InTurn turns
-    → (rest : List Hit) × (documents view request ≡ hits_of turns ++ rest) × (EndsShort turns → rest ≡ [])
+    (number : ℕ) (view : View) (query : Query) (turns : List (Turn limits history number))
+    → Opens limits history number view → InTurn query turns
+    → (rest : List Hit) × (documents view query ≡ hits_of turns ++ rest) × (EndsShort turns → rest ≡ [])

@@ -7,20 +7,21 @@ use Rattle.es_types.specs.declared.row.Op.TheVariants.{Put as PutOp, Remove as R
 use Rattle.es_types.specs.declared.row.Value.{Value}
 use Rattle.es_types.specs.Fields.{fit}
 use Rattle.es_types.specs.Homes.{shard_of}
+use Rattle.es_query.specs.Fits.{fits}
 use Rattle.list_machine.specs.declared.event.Entry.{Entry}
 use Rattle.list_machine.specs.declared.event.Event.{Event}
 use Rattle.list_machine.specs.declared.event.Event.TheVariants.{Create, Write, Seal, Publish, OpenPit, Search, Quiet}
 use Rattle.list_machine.specs.declared.event.Change.{Change}
 use Rattle.list_machine.specs.declared.event.Change.TheVariants.{Put, Remove}
 use Rattle.list_machine.specs.declared.event.Target.{Target}
-use Rattle.list_machine.specs.declared.event.Target.TheVariants.{Pit}
+use Rattle.list_machine.specs.declared.event.Target.TheVariants as target
 use Rattle.list_machine.specs.declared.event.Wrote.{Wrote}
 use Rattle.list_machine.specs.declared.event.Wrote.TheVariants.{Created, Updated, Deleted, NotFound}
 use Rattle.list_machine.specs.declared.event.Reply.{Reply}
-use Rattle.list_machine.specs.declared.event.Reply.TheVariants.{Done, Wrote as WroteReply, Sealed, Opened, Found, NoIndex, Exists, Missing, BadDoc, TooMany, ShardFull}
+use Rattle.list_machine.specs.declared.event.Reply.TheVariants.{Done, Wrote as WroteReply, Sealed, Opened, Found, NoIndex, Exists, Missing, BadDoc, BadQuery, TooMany, ShardFull}
 use Rattle.list_machine.specs.declared.search.SearchRequest.{SearchRequest}
 use Rattle.list_machine.specs.Rows.{Shard, has_id, last_number, publish, rows_to_come}
-use Rattle.list_machine.specs.Views.{answer}
+use Rattle.list_machine.specs.Views.{View, answer}
 use Rattle.list_machine.specs.State.{State, Index, Context, empty_shard, index_of, put_index, context_of, is_live, live_contexts, shard_count, most_shards, view_of}
 
 -- as many rows and waiting operations as a shard may have
@@ -109,13 +110,22 @@ open_pit state keep (Some index) =
       Opened state.next,
     )
 
+-- what a search of a view is answered: a query that has a value of another kind than its field is refused
+abbrev pub search_reply : View → SearchRequest → Reply
+search_reply view request = if fits view.mapping request.query then Found (answer view request 0) else BadQuery
+
+abbrev pub search_index : State → SearchRequest → Option Index → State × Reply
+search_index state request None = (state, NoIndex)
+search_index state request (Some index) = (state, search_reply (view_of index) request)
+
 abbrev pub search_pit : State → SearchRequest → Option Context → State × Reply
 search_pit state request None = (state, Missing)
 search_pit state request (Some context) =
-    if is_live state.moment context then (state, Found (answer context.view request 0)) else (state, Missing)
+    if is_live state.moment context then (state, search_reply context.view request) else (state, Missing)
 
 abbrev pub search : State → SearchRequest → Target → State × Reply
-search state request (Pit number) = search_pit state request (context_of number state.contexts)
+search state request (target.Index name) = search_index state request (index_of name state.indexes)
+search state request (target.Pit number) = search_pit state request (context_of number state.contexts)
 
 -- what an event makes of the state, and its reply
 abbrev pub happen : State → Event → State × Reply
@@ -124,7 +134,7 @@ happen state (Write index id change) = write state id change (index_of index sta
 happen state (Seal index) = seal state (index_of index state.indexes)
 happen state (Publish index shard upto) = publish_index state shard upto (index_of index state.indexes)
 happen state (OpenPit index keep) = open_pit state keep (index_of index state.indexes)
-happen state (Search target request) = search state request target
+happen state (Search looked request) = search state request looked
 happen state Quiet = (state, Done)
 
 -- the state once a moment has come: moments never fall

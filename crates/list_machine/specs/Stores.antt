@@ -1,17 +1,21 @@
 -- What the lists of the plain machine are seen as: rows, indexes, contexts and a state.
 use Rattle.std.specs.Prelude.{◌≡◌, ℕ, ◌+◌, ◌≤◌, nat_lt, List, length, map, All, if◌then◌else◌, Option, Some, None, Result, Ok, Err, slice_get, slice_set}
+use Rattle.es_types.specs.declared.bounds.Bounds.{Bounds}
 use Rattle.es_types.specs.declared.fit.DocFault.{DocFault}
 use Rattle.es_types.specs.declared.mapping.Field.{Field}
 use Rattle.es_types.specs.declared.row.Op.{Op}
 use Rattle.es_types.specs.declared.row.Row.{Row}
 use Rattle.es_types.specs.Homes.{shard_of}
+use Rattle.es_query.specs.Limits.{bounds_of}
 use Rattle.list_machine.specs.declared.event.Change.{Change}
 use Rattle.list_machine.specs.declared.event.Reply.{Reply}
 use Rattle.list_machine.specs.declared.event.Reply.TheVariants.{BadDoc, NoIndex, ShardFull, Wrote as WroteReply}
 use Rattle.list_machine.specs.declared.store.ShardStore.{ShardStore}
 use Rattle.list_machine.specs.declared.store.IndexStore.{IndexStore}
-use Rattle.list_machine.specs.declared.store.ContextStore.{ContextStore}
+use Rattle.list_machine.specs.declared.context.ContextStore.{ContextStore}
 use Rattle.list_machine.specs.declared.store.Store.{Store}
+use Rattle.list_machine.specs.declared.view.ShardRef.{ShardRef}
+use Rattle.list_machine.specs.declared.view.ViewRef.{ViewRef}
 use Rattle.list_machine.specs.Rows.{Shard, has_id, last_number, publish, rows_to_come}
 use Rattle.list_machine.specs.Views.{View}
 use Rattle.list_machine.specs.State.{State, Index, Context, IsSound, most_shards}
@@ -46,6 +50,22 @@ state_seen store = record {
   indexes = indexes_seen store.indexes.items;
   contexts = contexts_seen store.contexts.items;
 }
+
+-- the view that a search looks at
+abbrev pub view_at : ViewRef → View
+view_at view = record { index = view.index.now; mapping = view.mapping.now; shards = map (λ (shard : ShardRef). shard.rows.now) view.shards.now }
+
+-- the view of an index of that name and mapping, whose shards have these rows
+abbrev pub view_over : List ℕ → List Field → List (List Row) → View
+view_over index mapping rows = record { index = index; mapping = mapping; shards = rows }
+
+-- the bounds of each of some lists of rows
+abbrev pub bounds_of_each : List Field → List (List Row) → List Bounds
+bounds_of_each mapping lists = map (λ rows. bounds_of mapping rows) lists
+
+-- its bounds are those of its rows
+abbrev pub AreBounded : ViewRef → Type 0
+AreBounded view = map (λ (shard : ShardRef). shard.bounds.now) view.shards.now ≡ bounds_of_each view.mapping.now (map (λ (shard : ShardRef). shard.rows.now) view.shards.now)
 
 -- the most entries that come before a step, 2^53 - 1
 abbrev pub most_entries : ℕ

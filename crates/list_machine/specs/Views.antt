@@ -1,9 +1,13 @@
 -- A view, its places, and a page of them.
-use Rattle.std.specs.Prelude.{ℕ, ◌+◌, ◌-◌, ◌*◌, ◌/◌, ◌==◌, Bool, true, ℤ, pos, int_lt, List, [], ◌∷◌, ◌++◌, length, take, drop, map, filter, count_by, Option, Some, None}
+use Rattle.std.specs.Prelude.{ℕ, ◌+◌, ◌-◌, ◌*◌, ◌/◌, Bool, true, false, ℤ, pos, int_lt, List, [], ◌∷◌, ◌++◌, length, take, drop, map, filter, count_by, Option, Some, None}
 use Rattle.es_types.specs.declared.mapping.Field.{Field}
 use Rattle.es_types.specs.declared.row.Row.{Row}
 use Rattle.es_types.specs.declared.row.Value.{Value}
 use Rattle.es_types.specs.declared.row.Value.TheVariants.{Long}
+use Rattle.es_query.specs.declared.query.Query.{Query}
+use Rattle.es_query.specs.Excluded.{excluded}
+use Rattle.es_query.specs.Limits.{bounds_of}
+use Rattle.es_query.specs.Matches.{matches}
 use Rattle.list_machine.specs.declared.search.SearchRequest.{SearchRequest}
 use Rattle.list_machine.specs.declared.search.Answer.{Answer}
 use Rattle.list_machine.specs.declared.search.Hit.{Hit}
@@ -27,30 +31,35 @@ abbrev pub places_from : ℕ → List (List Row) → List Place
 places_from shard [] = []
 places_from shard (rows ∷ shards) = places_of_shard (shard * 4294967296) rows ++ places_from (shard + 1) shards
 
--- the values that a hit shows, by which the places are ordered
-abbrev pub shown_key : Place → List Value
-shown_key place = Long (pos place.number) ∷ []
+-- the values that a hit shows: its place, by which they are ordered, where that is asked for
+abbrev pub shown_key : Bool → Place → List Value
+shown_key true place = Long (pos place.number) ∷ []
+shown_key false place = []
 
--- all places that match, each once, in the order of their keys
-abbrev pub enumeration : View → SearchRequest → List Place
-enumeration view request = places_from 0 view.shards
+-- the places among these whose row matches
+abbrev pub matching : View → Query → List Place → List Place
+matching view query places = filter (λ place. matches view.mapping place.row.values query) places
 
--- whether the place's shown key is strictly after those values
+-- all places that match, each once, in the order of their numbers
+abbrev pub enumeration : View → Query → List Place
+enumeration view query = matching view query (places_from 0 view.shards)
+
+-- whether the place is strictly after that number
 abbrev pub is_beyond : Option ℤ → Place → Bool
 is_beyond None place = true
 is_beyond (Some after) place = int_lt after (pos place.number)
 
 -- the places of a page: those beyond what the request gives, without the first ones, at most as many as it asks for
 abbrev pub page : View → SearchRequest → ℕ → List Place
-page view request skip = take request.size (drop skip (filter (is_beyond request.after) (enumeration view request)))
+page view request skip = take request.size (drop skip (filter (is_beyond request.after) (enumeration view request.query)))
 
 -- what is shown of a place
-abbrev pub hit : View → Place → Hit
-hit view place = record { index = view.index; id = place.row.id; source = place.row.source; shown = shown_key place }
+abbrev pub hit : View → Bool → Place → Hit
+hit view shows place = record { index = view.index; id = place.row.id; source = place.row.source; shown = shown_key shows place }
 
--- how many shards need not be looked at: those without a row
-abbrev pub skipped : View → ℕ
-skipped view = count_by (λ rows. length rows == 0) view.shards
+-- how many shards need not be looked at: those whose bounds exclude the query
+abbrev pub skipped : View → Query → ℕ
+skipped view query = count_by (λ rows. excluded view.mapping (bounds_of view.mapping rows) query) view.shards
 
 -- in how many steps the tops of so many shards are brought together, 512 at a time
 abbrev pub phases : ℕ → ℕ
@@ -59,8 +68,8 @@ phases shards = 1 + (shards - 1) / 512
 -- the answer to a search of the view
 abbrev pub answer : View → SearchRequest → ℕ → Answer
 answer view request skip = record {
-  counts = record { total = length view.shards; successful = length view.shards; skipped = skipped view; failed = 0 };
-  phases = phases (length view.shards - skipped view);
-  total = length (enumeration view request);
-  hits = map (hit view) (page view request skip);
+  counts = record { total = length view.shards; successful = length view.shards; skipped = skipped view request.query; failed = 0 };
+  phases = phases (length view.shards - skipped view request.query);
+  total = length (enumeration view request.query);
+  hits = map (hit view request.show_place) (page view request skip);
 }

@@ -8,9 +8,10 @@ pub enum Change {
     Remove,
 }
 
-/// What a search looks at: the view of a point in time.
+/// What a search looks at: an index as it is now, or the view of a point in time.
 #[derive(Drop)]
 pub enum Target {
+    Index(IndexName),
     Pit { number: u64 },
 }
 
@@ -90,6 +91,8 @@ pub enum Reply {
     Missing,
     /// The document has a value that is none of its field.
     BadDoc(DocFault),
+    /// The query has a value of another kind than its field's.
+    BadQuery,
     /// As many points in time as may be are live, or all indexes together would have more shards than they may have.
     TooMany { limit: u64 },
     ShardFull,

@@ -2,6 +2,8 @@
 //! rows, views, pages, the state, one step with its reply, the run over a history, and pages taken in turn.
 #![tactic(auto)]
 
+mod bounds;
+mod context;
 mod creating;
 mod event;
 mod first;
@@ -11,17 +13,20 @@ mod machine;
 mod paging;
 mod publishing;
 mod search;
+mod searching;
 mod service;
 mod store;
+mod view;
 mod writing;
 
+pub use bounds::bounds_of_each;
+pub use context::ContextStore;
 pub use event::{Change, Entry, Event, Limits, Reply, Target, Wrote};
 pub use first::docs;
 pub use laws::{pages_in_turn, sound_states};
 pub use machine::Machine;
-pub use paging::answer;
 pub use publishing::apply_ops;
 pub use search::{Answer, Counts, Hit, SearchRequest};
+pub use searching::{search_context, search_rows};
 pub use service::Service;
-pub use store::ContextStore;
 pub use writing::make_op;

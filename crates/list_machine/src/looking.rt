@@ -1,13 +1,13 @@
-ghost use Rattle.std.specs.Prelude.{◌≡◌, ◌+◌, ◌≤◌, ◌==◌, IfOk, OnErr, All, map, count_by, find, option_copied};
-ghost use Rattle.list_machine.specs.declared.event.Event.TheVariants.{OpenPit, Seal, Search};
+ghost use Rattle.std.specs.Prelude.{◌≡◌, ◌+◌, ◌≤◌, IfOk, OnErr, All, map, count_by};
+ghost use Rattle.list_machine.specs.declared.event.Event.TheVariants.{OpenPit, Seal};
 ghost use Rattle.list_machine.specs.Rows.{last_number as last_number_of};
-ghost use Rattle.list_machine.specs.State.{Context, State, context_of, is_live, view_of};
-ghost use Rattle.list_machine.specs.Step.{happen, search_pit};
-ghost use Rattle.list_machine.specs.Stores.{IsCountedIndex, IsSmall, contexts_seen, context_seen, index_seen, indexes_seen, most_entries, shard_seen, state_seen};
+ghost use Rattle.list_machine.specs.State.{State, is_live, view_of};
+ghost use Rattle.list_machine.specs.Step.{happen};
+ghost use Rattle.list_machine.specs.Stores.{IsCountedIndex, contexts_seen, context_seen, index_seen, indexes_seen, most_entries, shard_seen, state_seen};
 
-use crate::paging::answer;
-use crate::store::{ContextStore, IndexStore, ShardStore, Store, last_number, place_of};
-use crate::{Reply, SearchRequest, Target};
+use crate::Reply;
+use crate::context::ContextStore;
+use crate::store::{IndexStore, ShardStore, Store, last_number, place_of};
 use es_types::{Copied, IndexName, Items, KeepAlive, Moment, NoMemory, Row};
 use std::alloc::Global;
 
@@ -80,13 +80,8 @@ fn make_context(
 {
     let name = index.name.copy(alloc)?;
     let mapping = index.mapping.copy(alloc)?;
-    Ok(ContextStore {
-        number,
-        index: name,
-        mapping,
-        shards: copy_shards(alloc, &index.shards)?,
-        expiry,
-    })
+    let shards = copy_shards(alloc, &index.shards)?;
+    ContextStore::make(alloc, number, name, mapping, shards, expiry)
 }
 
 fn copy_shards(alloc: Global, shards: &[ShardStore]) -> Result<Vec<Vec<Row>>, NoMemory>
@@ -107,48 +102,4 @@ fn copy_rows(alloc: Global, rows: &[Row]) -> Result<Vec<Row>, NoMemory>
         copies.push(row.copy(alloc)?)?;
     }
     Ok(copies)
-}
-
-/// Searches the view of a context that is live.
-pub fn search(
-    alloc: Global,
-    contexts: &[ContextStore],
-    moment: Moment,
-    target: &Target,
-    request: &SearchRequest,
-) -> Result<Reply, NoMemory>
-    requires { All (λ (context : Context). IsSmall context.view) (contexts_seen contexts.now) }
-    ensures { IfOk result (λ reply. (state : State) → happen (record state { contexts = contexts_seen contexts.now; moment = moment }) (Search target.now request.now)
-        ≡ (record state { contexts = contexts_seen contexts.now; moment = moment }, reply)) }
-{
-    match target {
-        Target::Pit { number } => search_pit(alloc, contexts, moment, *number, request),
-    }
-}
-
-fn search_pit(
-    alloc: Global,
-    contexts: &[ContextStore],
-    moment: Moment,
-    number: u64,
-    request: &SearchRequest,
-) -> Result<Reply, NoMemory>
-    requires { All (λ (context : Context). IsSmall context.view) (contexts_seen contexts.now) }
-    ensures { IfOk result (λ reply. (state : State) → search_pit (record state { contexts = contexts_seen contexts.now; moment = moment }) request.now (context_of number (contexts_seen contexts.now))
-        ≡ (record state { contexts = contexts_seen contexts.now; moment = moment }, reply)) }
-{
-    let Some(context) = context_at(contexts, number) else {
-        return Ok(Reply::Missing);
-    };
-    if moment.millis() <= context.expiry {
-        Ok(Reply::Found(answer(alloc, context, request)?))
-    } else {
-        Ok(Reply::Missing)
-    }
-}
-
-fn context_at(contexts: &[ContextStore], number: u64) -> Option<&ContextStore>
-    ensures { option_copied result ≡ find (λ context. context.number == number) contexts.now }
-{
-    contexts.iter().find(|context| context.number == number)
 }

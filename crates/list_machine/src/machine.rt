@@ -6,8 +6,9 @@ ghost use Rattle.list_machine.specs.Stores.{IsCounted, most_entries, state_seen}
 
 use crate::creating::create;
 use crate::first::first_store;
-use crate::looking::{open_pit, seal, search};
+use crate::looking::{open_pit, seal};
 use crate::publishing::publish;
+use crate::searching::search;
 use crate::store::Store;
 use crate::writing::write;
 use crate::{Entry, Event, Limits, Reply};
@@ -96,9 +97,7 @@ fn reply_to(
             publish(&mut store.indexes, index, *shard, *upto)
         }
         Event::OpenPit { index, keep } => open_pit(alloc, store, moment, index, keep),
-        Event::Search { target, request } => {
-            search(alloc, &store.contexts, moment, target, request)
-        }
+        Event::Search { target, request } => search(alloc, store, moment, target, request),
         Event::Quiet => Ok(Reply::Done),
     }
 }

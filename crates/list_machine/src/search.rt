@@ -1,9 +1,12 @@
+use es_query::Query;
 use es_types::{Bytes, DocId, IndexName, Items, Value};
 
-/// What a search asks for: at most `size` hits, strictly after the place `after` where one is given. A hit shows
-/// its place.
+/// What a search asks for: at most `size` of the rows that match, strictly after the place `after` where one is given. A hit
+/// shows its place where `show_place` says so.
 #[derive(Drop)]
 pub struct SearchRequest {
+    pub query: Query,
+    pub show_place: bool,
     pub size: u32,
     pub after: Option<i64>,
 }

@@ -3,6 +3,7 @@ ghost use Rattle.list_machine.specs.Rows.{last_number as last_number_of};
 ghost use Rattle.list_machine.specs.Stores.{shard_seen};
 
 use crate::Limits;
+use crate::context::ContextStore;
 use es_types::{DocId, IndexName, Mapping, Moment, Op, Row};
 
 /// A shard: how many of its operations were applied, the rows that a search sees, and the operations that wait.
@@ -19,16 +20,6 @@ pub struct IndexStore {
     pub name: IndexName,
     pub mapping: Mapping,
     pub shards: Vec<ShardStore>,
-}
-
-/// A point in time: the rows of each shard that it keeps, and the last moment at which it is live, in milliseconds.
-#[derive(Drop)]
-pub struct ContextStore {
-    pub number: u64,
-    pub index: IndexName,
-    pub mapping: Mapping,
-    pub shards: Vec<Vec<Row>>,
-    pub expiry: u64,
 }
 
 /// The state of the machine in lists.

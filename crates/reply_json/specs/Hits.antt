@@ -1,5 +1,5 @@
 -- Answers to searches, as JSON (RFC 8259).
-use Rattle.std.specs.Prelude.{ℕ, ◌==◌, Bool, true, false, if◌then◌else◌, List, [], ◌∷◌, ◌++◌, codes, decimal}
+use Rattle.std.specs.Prelude.{ℕ, ◌==◌, Bool, true, false, if◌then◌else◌, List, [], ◌∷◌, ◌++◌, Option, Some, None, codes, decimal}
 use Rattle.std.specs.Fmt.{signed_decimal}
 use Rattle.json.specs.Print.{quoted}
 use Rattle.es_types.specs.declared.row.Value.{Value}
@@ -47,7 +47,11 @@ before_hits answer =
     codes ",\"hits\":{\"total\":{\"value\":" ∷ decimal answer.total ∷
     codes ",\"relation\":\"eq\"},\"max_score\":null,\"hits\":[" ∷ [])
 
-unfoldable pub found_text : ℕ → Answer → List ℕ
+-- the point in time that was searched, if one was
+abbrev pub pit_text : Option ℕ → List ℕ
+pit_text None = []
+pit_text (Some number) = joined (codes "\"pit_id\":\"" ∷ id_text number ∷ codes "\"," ∷ [])
+
+unfoldable pub found_text : Option ℕ → Answer → List ℕ
 found_text pit answer =
-    joined (codes "{\"pit_id\":\"" ∷ id_text pit ∷ codes "\"," ∷ before_hits answer ∷
-    hits_text false answer.hits ∷ codes "]}}" ∷ [])
+    joined (codes "{" ∷ pit_text pit ∷ before_hits answer ∷ hits_text false answer.hits ∷ codes "]}}" ∷ [])

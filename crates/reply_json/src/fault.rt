@@ -23,6 +23,8 @@ pub enum RestFault {
     Exists(Text),
     /// The document has a value that is none of its field.
     BadDoc(DocFault),
+    /// The query has a value of another kind than its field's.
+    BadQuery,
     /// No context of that id is live.
     NoContext(Text),
     /// As many contexts as may be are live; the number is how many.

@@ -1,5 +1,5 @@
 ghost use Rattle.std.specs.Prelude.{◌≡◌, ◌∷◌, ◌++◌, [], IfOk, OnOk, codes, decimal, false, string_bytes};
-ghost use Rattle.reply_json.specs.Hits.{before_hits, counts_text, found_text, hit_text, hits_text, phases_text, sort_text, value_text, values_text};
+ghost use Rattle.reply_json.specs.Hits.{before_hits, counts_text, found_text, hit_text, hits_text, phases_text, pit_text, sort_text, value_text, values_text};
 ghost use Rattle.reply_json.specs.Pieces.{comma_if, joined};
 
 use crate::ids::id_text;
@@ -139,21 +139,39 @@ fn before_hits(alloc: Global, answer: &Answer) -> Result<String, NoMemory>
     opening_text(alloc, phases.as_str(), counts.as_str(), answer.total)
 }
 
-fn pit_text(alloc: Global, id: &str, before: &str) -> Result<String, NoMemory>
-    ensures { IfOk result (λ s. string_bytes s ≡
-        joined (codes "{\"pit_id\":\"" ∷ id.now ∷ codes "\"," ∷ before.now ∷ [])) }
+fn pit_named(alloc: Global, id: &str) -> Result<String, NoMemory>
+    ensures { IfOk result (λ s. string_bytes s ≡ joined (codes "\"pit_id\":\"" ∷ id.now ∷ codes "\"," ∷ [])) }
 {
-    format!(in alloc; "{{\"pit_id\":\"{id}\",{before}")
+    format!(in alloc; "\"pit_id\":\"{id}\",")
 }
 
-/// The body of an answer to a search in a point in time.
+// The point in time that was searched, if one was.
+fn pit_text(alloc: Global, pit: Option<u64>) -> Result<String, NoMemory>
+    ensures { IfOk result (λ s. string_bytes s ≡ pit_text pit) }
+{
+    match pit {
+        None => Ok(String::new(alloc)),
+        Some(number) => {
+            let id = id_text(alloc, number)?;
+            pit_named(alloc, id.as_str())
+        }
+    }
+}
+
+fn found_head(alloc: Global, pit: &str, before: &str) -> Result<String, NoMemory>
+    ensures { IfOk result (λ s. string_bytes s ≡ joined (codes "{" ∷ pit.now ∷ before.now ∷ [])) }
+{
+    format!(in alloc; "{{{pit}{before}")
+}
+
+/// The body of an answer to a search of an index, or of the point in time of that number.
 #[tactic(auto, unfolding(crate::specs::Hits::found_text))]
-pub fn found_text(alloc: Global, pit: u64, answer: &Answer) -> Result<Vec<u8>, NoMemory>
+pub fn found_text(alloc: Global, pit: Option<u64>, answer: &Answer) -> Result<Vec<u8>, NoMemory>
     ensures { IfOk result (λ body. body.items ≡ found_text pit answer.now) }
 {
-    let id = id_text(alloc, pit)?;
+    let pit = pit_text(alloc, pit)?;
     let before = before_hits(alloc, answer)?;
-    let mut body = pit_text(alloc, id.as_str(), before.as_str())?.into_bytes();
+    let mut body = found_head(alloc, pit.as_str(), before.as_str())?.into_bytes();
     push_hits(&mut body, alloc, answer.hits.as_slice())?;
     body.extend_from_slice(b"]}}")?;
     Ok(body)

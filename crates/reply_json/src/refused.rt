@@ -20,6 +20,7 @@ pub fn fault_status(fault: &RestFault) -> u16
         RestFault::NoIndex(_) => 404,
         RestFault::Exists(_) => 400,
         RestFault::BadDoc(_) => 400,
+        RestFault::BadQuery => 400,
         RestFault::NoContext(_) => 404,
         RestFault::TooMany(_) => 429,
         RestFault::ShardFull => 429,
@@ -39,6 +40,7 @@ fn fault_type(fault: &RestFault) -> &'static str
         RestFault::NoIndex(_) => "index_not_found_exception",
         RestFault::Exists(_) => "resource_already_exists_exception",
         RestFault::BadDoc(_) => "document_parsing_exception",
+        RestFault::BadQuery => "query_shard_exception",
         RestFault::NoContext(_) => "search_context_missing_exception",
         RestFault::TooMany(_) => "too_many_contexts_exception",
         RestFault::ShardFull => "shard_full_exception",
@@ -78,6 +80,8 @@ fn limit_word(name: LimitName) -> &'static str
         LimitName::Id => "id",
         LimitName::Shards => "shards",
         LimitName::Fields => "fields",
+        LimitName::Pit => "pit",
+        LimitName::Window => "window",
     }
 }
 
@@ -99,6 +103,7 @@ fn reason(alloc: Global, fault: &RestFault) -> Result<String, NoMemory>
         RestFault::NoIndex(name) => around(alloc, "no such index [", name.as_str(), "]"),
         RestFault::Exists(name) => around(alloc, "index [", name.as_str(), "] exists"),
         RestFault::BadDoc(doc) => bad_doc(alloc, *doc),
+        RestFault::BadQuery => String::from_str(alloc, "a query value of another kind"),
         RestFault::NoContext(id) => around(alloc, "no context [", id.as_str(), "]"),
         RestFault::TooMany(limit) => over_limit(alloc, *limit),
         RestFault::ShardFull => String::from_str(alloc, "shard is full"),

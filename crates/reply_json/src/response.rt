@@ -10,8 +10,8 @@ pub enum RouteName {
     Remove { index: IndexName, id: DocId },
     Refresh,
     OpenPit,
-    /// A search of the point in time of that number.
-    Search { pit: u64 },
+    /// A search of an index, or of the point in time of that number.
+    Search { pit: Option<u64> },
 }
 
 /// What became of an item of a bulk. `seq` is the operation's number in its shard, from 1.

@@ -1,11 +1,11 @@
-use Rattle.std.proofs.Common.{◌≡◌, ℕ, List, ap, ap₂, sym, ◌∙◌, map}
+use Rattle.std.proofs.Common.{◌≡◌, ℕ, IfOk, List, ap, ap₂, subst, sym, ◌∙◌, map}
 use Rattle.std.proofs.lemmas.Simd.{map-map}
 use Rattle.es_types.specs.declared.mapping.Field.{Field}
 use Rattle.es_types.specs.declared.row.Row.{Row}
 use Rattle.list_machine.specs.declared.store.ShardStore.{ShardStore}
 use Rattle.list_machine.specs.Rows.{Shard}
 use Rattle.list_machine.specs.State.{Context}
-use Rattle.list_machine.specs.Stores.{shard_seen}
+use Rattle.list_machine.specs.Stores.{context_seen, shard_seen}
 use Rattle.list_machine.proofs.StoreLemmas.{rows_in}
 use Rattle.list_machine.proofs.looking.make_context.Goals as goal
 
@@ -15,7 +15,11 @@ returns c =
     let context : List ℕ → List Field → List (List Row) → Context =
     λ name mapping shards. record { number = c.args.number; view = record { index = name; mapping = mapping; shards = shards }; expiry = c.args.expiry } in
     let name : c.name.inside.0 ≡ index.name = c.name.view_is ∙ c.in_ok-name.ensures in
-    ap₂ (λ name mapping. context name mapping (map rows_in c.in_ok-copy_shards.field-0.items)) name c.in_ok-mapping.ensures
-    ∙ ap (context index.name index.mapping) (c.in_ok-copy_shards.ensures
+    let lists : map rows_in c.in_ok-shards.shards.items ≡ map (λ (shard : Shard). shard.rows) (map shard_seen index.shards.items) =
+    c.in_ok-shards.ensures
     ∙ ap (map (λ (shard : ShardStore). shard.rows.items)) c.deref.ensures.value
-    ∙ sym (map-map (λ (shard : Shard). shard.rows) shard_seen index.shards.items))
+    ∙ sym (map-map (λ (shard : Shard). shard.rows) shard_seen index.shards.items) in
+    subst (λ (it : Context). IfOk c.make.result (λ made. context_seen made ≡ it))
+    (ap₂ (λ name mapping. context name mapping (map rows_in c.in_ok-shards.shards.items)) c.in_ok-name.ensures c.in_ok-mapping.ensures
+    ∙ ap (context index.name index.mapping) lists)
+    c.make.ensures.seen

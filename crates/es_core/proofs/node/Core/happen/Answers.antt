@@ -1,4 +1,6 @@
-use Rattle.std.proofs.Common.{refl}
+use Rattle.std.proofs.Common.{ap, refl, ◌∙◌}
+use Rattle.list_machine.specs.declared.event.Event.TheVariants.{Search}
+use Rattle.list_machine.specs.declared.event.Target.{Target}
 use Rattle.es_core.proofs.StepLemmas.{moved_any, moved_done, search_done, stayed_done}
 use Rattle.es_core.proofs.node.Core.happen.Goals as goal
 
@@ -18,6 +20,12 @@ pub returns-in-Publish-clause-steps : goal.returns-in-Publish-clause-steps
 returns-in-Publish-clause-steps c =
     moved_any c.args.self.now _ c.args.moment c.args.event.now _ c.in-Publish.is (record { limits_are = refl; next = refl; book = refl }) c.publish.result c.publish.ensures.ok
 
-pub returns-in-Search-clause-steps : goal.returns-in-Search-clause-steps
-returns-in-Search-clause-steps c =
-    search_done c.args.self.now _ c.args.moment c.args.event.now _ _ c.in-Search.is (record { limits_are = refl; next = refl; book = refl }) refl c.search.result c.search.ensures
+pub returns-in-Index-clause-steps : goal.returns-in-Index-clause-steps
+returns-in-Index-clause-steps c =
+    let is = c.in-Search.is ∙ ap (λ (it : Target). Search it c.in-Search.request) c.in-Index.is in
+    moved_any c.args.self.now _ c.args.moment c.args.event.now _ is (record { limits_are = refl; next = refl; book = refl }) c.search_index.result c.search_index.ensures.ok
+
+pub returns-in-Pit-clause-steps : goal.returns-in-Pit-clause-steps
+returns-in-Pit-clause-steps c =
+    let is = c.in-Search.is ∙ ap (λ (it : Target). Search it c.in-Search.request) c.in-Pit.is in
+    search_done c.args.self.now _ c.args.moment c.args.event.now c.in-Pit.number c.in-Search.request is (record { limits_are = refl; next = refl; book = refl }) refl c.search_pit.result c.search_pit.ensures

@@ -1,0 +1,4 @@
+pub mod Ids
+pub mod Values
+pub mod Queries
+pub mod Searches
