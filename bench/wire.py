@@ -39,6 +39,20 @@ def many_documents(count):
         yield from request(b"POST /_search", pit, b',"search_after":[%d]}' % after)
 
 
+def sorted_documents(count, pages, size):
+    """So many documents in one shard, and so many pages of them in a point in time, by a whole number that is in no order."""
+    yield from request(b"PUT /t", b'{"mappings":{"properties":{"n":{"type":"long"}}}}')
+    numbers = [place * 7919 % count for place in range(count)]
+    lines = b"".join(b'{"index":{"_id":"d%d"}}\n{"n":%d}\n' % (place, n) for place, n in enumerate(numbers))
+    yield from request(b"POST /t/_bulk?refresh", lines)
+    yield from request(b"POST /t/_pit?keep_alive=1m")
+    places = {n: place for place, n in enumerate(numbers)}
+    for page in range(pages):
+        last = page * size - 1
+        after = b',"search_after":[%d,%d]' % (last, places[last]) if page else b""
+        yield from request(b"POST /_search", b'{"pit":{"id":"UAAAAAAAAAAB"},"size":%d,"sort":["n"]%s}' % (size, after))
+
+
 def small_puts(count):
     """Small documents without a refresh between them."""
     for number in range(count):
@@ -186,6 +200,9 @@ def main():
         ("2,000 searches, bool", searched(2000, BOOL)),
         ("2,000 searches, one shard", searched(2000, ONE_SHARD)),
         ("2,000 searches, no shard", searched(2000, NO_SHARD)),
+        ("20,000 documents, no page", sorted_documents(20000, 0, 1000)),
+        ("20,000 documents, 20 pages of 1,000 in order", sorted_documents(20000, 20, 1000)),
+        ("20,000 documents, 2 pages of 10,000 in order", sorted_documents(20000, 2, 10000)),
         ("1,000 documents", many_documents(1000)),
         ("4,000 documents", many_documents(4000)),
     ))
@@ -208,6 +225,9 @@ def main():
     for name in ("term", "range", "bool", "one shard", "no shard"):
         seconds = found["2,000 searches, " + name][1] - found["no search"][1]
         print("%s: %d searches a second" % (name, 2000 / seconds))
+    for pages, size in ((20, "1,000"), (2, "10,000")):
+        seconds = found["20,000 documents, %d pages of %s in order" % (pages, size)][1] - found["20,000 documents, no page"][1]
+        print("a page of %s of 20,000 documents in order: %.1f ms" % (size, seconds / pages * 1000))
     print("20,000 small puts: %d requests a second" % (20000 / found["20,000 small puts"][1]))
     sys.exit(failed)
 

@@ -10,6 +10,8 @@ mod outside;
 #[cfg(test)]
 mod queries;
 #[cfg(test)]
+mod sorts;
+#[cfg(test)]
 mod values;
 #[cfg(test)]
 mod wire;

@@ -1,15 +1,17 @@
 //! The calls of `list_machine` and `es_core`: both give the same replies to the same events.
 ghost use Rattle.std.specs.Prelude.{◌≡◌, ◌+◌, ◌<◌, ◌≤◌, ◌^◌, vec_len, IfOk, OnOk};
-ghost use Rattle.list_machine.specs.Run.{CreatesSome, PutsObject};
+ghost use Rattle.list_machine.specs.Run.{IsBounded, IsWithinLimits, PutsObject};
 
 use crate::fields::{cause, document, mapping_of_n};
+use crate::sorts::{by, field_key, value_text};
 use crate::values::{braces, text};
 use es_core::{Brought, Core, Turned};
 use es_query::Query;
+use es_sort::Keys;
 use es_types::{DocId, IndexName, Items, KeepAlive, Moment, NoMemory, Op, Row, Value};
 use list_machine::{
     Answer, Change, ContextStore, Entry, Event, Limits, Machine, Reply, SearchRequest, Target,
-    Wrote, apply_ops, docs, pages_in_turn, search_context, sound_states,
+    Wrote, apply_ops, docs, one_enumeration, pages_in_turn, search_context, sound_states,
 };
 use std::alloc::Global;
 use std::process::Abort;
@@ -45,7 +47,7 @@ fn doc_id(alloc: Global, id: &str) -> Result<DocId, Fail> {
 
 fn create(alloc: Global, line: &str) -> Result<Event, Fail>
     ensures object { IfOk result PutsObject }
-    ensures creates { IfOk result CreatesSome }
+    ensures creates { IfOk result IsBounded }
 {
     let index = index(alloc, word(line, 2))?;
     let mapping = mapping_of_n(alloc)?;
@@ -58,7 +60,7 @@ fn create(alloc: Global, line: &str) -> Result<Event, Fail>
 
 fn put(alloc: Global, line: &str) -> Result<Event, Fail>
     ensures object { IfOk result PutsObject }
-    ensures creates { IfOk result CreatesSome }
+    ensures creates { IfOk result IsBounded }
 {
     let doc = document(alloc, word(line, 4))?;
     let index = index(alloc, word(line, 2))?;
@@ -72,7 +74,7 @@ fn put(alloc: Global, line: &str) -> Result<Event, Fail>
 
 fn remove(alloc: Global, line: &str) -> Result<Event, Fail>
     ensures object { IfOk result PutsObject }
-    ensures creates { IfOk result CreatesSome }
+    ensures creates { IfOk result IsBounded }
 {
     let index = index(alloc, word(line, 2))?;
     let id = doc_id(alloc, word(line, 3))?;
@@ -85,7 +87,7 @@ fn remove(alloc: Global, line: &str) -> Result<Event, Fail>
 
 fn publish(alloc: Global, line: &str) -> Result<Event, Fail>
     ensures object { IfOk result PutsObject }
-    ensures creates { IfOk result CreatesSome }
+    ensures creates { IfOk result IsBounded }
 {
     let shard = word(line, 3).parse::<u32>().ok().ok_or("a shard")?;
     let upto = number(line, 4)?;
@@ -93,22 +95,69 @@ fn publish(alloc: Global, line: &str) -> Result<Event, Fail>
     Ok(Event::Publish { index, shard, upto })
 }
 
-fn search(line: &str) -> Result<Event, Fail>
+// A word as a whole number, or else as a text.
+fn value(alloc: Global, word: &str) -> Result<Value, NoMemory> {
+    match word.parse::<i64>() {
+        Ok(number) => Ok(Value::Long(number)),
+        Err(_) => Ok(Value::Key(text(alloc, word)?)),
+    }
+}
+
+// The value to go on behind, where there is such a word.
+fn after(alloc: Global, word: &str) -> Result<Option<Keys>, Fail> {
+    if word.is_empty() {
+        return Ok(None);
+    }
+    let value = value(alloc, word)?;
+    Ok(Some(Keys {
+        values: Items::of(vec![in alloc; value]?),
+    }))
+}
+
+// Asks for two documents by the places, which are shown.
+fn by_place(alloc: Global, after: Option<Keys>) -> SearchRequest
+    ensures { IsWithinLimits result }
+{
+    SearchRequest {
+        query: Query::All,
+        sort: by(Vec::new(alloc), true),
+        from: 0,
+        size: 2,
+        after,
+        batch: 512,
+    }
+}
+
+fn search(alloc: Global, line: &str) -> Result<Event, Fail>
     ensures object { IfOk result PutsObject }
-    ensures creates { IfOk result CreatesSome }
+    ensures creates { IfOk result IsBounded }
 {
     let number = number(line, 2)?;
-    let after = match word(line, 3) {
-        "" => None,
-        place => Some(place.parse::<i64>().ok().ok_or("a place")?),
-    };
+    let after = after(alloc, word(line, 3))?;
     Ok(Event::Search {
         target: Target::Pit { number },
+        request: by_place(alloc, after),
+    })
+}
+
+// A search of an index for two documents, without the first one, in the order of one field.
+fn order(alloc: Global, line: &str) -> Result<Event, Fail>
+    ensures object { IfOk result PutsObject }
+    ensures creates { IfOk result IsBounded }
+{
+    let index = index(alloc, word(line, 2))?;
+    let key = field_key(alloc, word(line, 3), word(line, 4) == "desc", false)?;
+    let after = after(alloc, word(line, 5))?;
+    let keys = vec![in alloc; key]?;
+    Ok(Event::Search {
+        target: Target::Index(index),
         request: SearchRequest {
             query: Query::All,
-            show_place: true,
+            sort: by(keys, false),
+            from: 1,
             size: 2,
             after,
+            batch: 2,
         },
     })
 }
@@ -116,21 +165,20 @@ fn search(line: &str) -> Result<Event, Fail>
 // A search of an index for one value of a field.
 fn find(alloc: Global, line: &str) -> Result<Event, Fail>
     ensures object { IfOk result PutsObject }
-    ensures creates { IfOk result CreatesSome }
+    ensures creates { IfOk result IsBounded }
 {
     let index = index(alloc, word(line, 2))?;
     let field = text(alloc, word(line, 3))?;
-    let value = match word(line, 4).parse::<i64>() {
-        Ok(number) => Value::Long(number),
-        Err(_) => Value::Key(text(alloc, word(line, 4))?),
-    };
+    let value = value(alloc, word(line, 4))?;
     Ok(Event::Search {
         target: Target::Index(index),
         request: SearchRequest {
             query: Query::Term { field, value },
-            show_place: false,
+            sort: by(Vec::new(alloc), false),
+            from: 0,
             size: 2,
             after: None,
+            batch: 512,
         },
     })
 }
@@ -138,10 +186,10 @@ fn find(alloc: Global, line: &str) -> Result<Event, Fail>
 // What a line asks for, behind its milliseconds. An index is made with five shards and the whole number `n`, and a
 // search is for two documents, behind a place where it has one:
 // create INDEX, put INDEX ID [n=N], remove INDEX ID, publish INDEX SHARD UPTO, open INDEX, search PIT [PLACE],
-// find INDEX FIELD VALUE, seal INDEX, quiet
+// find INDEX FIELD VALUE, order INDEX FIELD asc|desc [VALUE], seal INDEX, quiet
 fn event(alloc: Global, line: &str) -> Result<Event, Fail>
     ensures object { IfOk result PutsObject }
-    ensures creates { IfOk result CreatesSome }
+    ensures creates { IfOk result IsBounded }
 {
     match word(line, 1) {
         "create" => create(alloc, line),
@@ -152,8 +200,9 @@ fn event(alloc: Global, line: &str) -> Result<Event, Fail>
             index: index(alloc, word(line, 2))?,
             keep: KeepAlive::minute(),
         }),
-        "search" => search(line),
+        "search" => search(alloc, line),
         "find" => find(alloc, line),
+        "order" => order(alloc, line),
         "seal" => Ok(Event::Seal {
             index: index(alloc, word(line, 2))?,
         }),
@@ -162,16 +211,21 @@ fn event(alloc: Global, line: &str) -> Result<Event, Fail>
     }
 }
 
-// How many documents match, then each hit with the place that it shows, and how many shards were skipped.
+// How many documents match, then each hit with what it shows, in how many steps the shards were brought together where those
+// are more than one, and how many shards were skipped.
 fn page_text(alloc: Global, answer: &Answer) -> Result<String, Fail> {
     let mut text = format!(in alloc; "{} of {}", answer.hits.as_slice().len(), answer.total)?;
     for hit in answer.hits.as_slice() {
         let index = hit.index.text().as_str();
         let id = hit.id.text().as_str();
         text.push_str(&format!(in alloc; " {index} {id}")?)?;
-        if let [Value::Long(place)] = hit.shown.as_slice() {
-            text.push_str(&format!(in alloc; " {place}")?)?;
+        for value in hit.shown.as_slice() {
+            let value = value_text(alloc, value)?;
+            text.push_str(&format!(in alloc; " {value}")?)?;
         }
+    }
+    if answer.phases > 1 {
+        text.push_str(&format!(in alloc; " in {} steps", answer.phases)?)?;
     }
     let counts = &answer.counts;
     if counts.skipped > 0 {
@@ -204,6 +258,8 @@ fn reply_text(alloc: Global, reply: &Reply) -> Result<String, Fail> {
             format!(in alloc; "{cause} {}", fault.field)?
         }
         Reply::BadQuery => String::from_str(alloc, "bad query")?,
+        Reply::BadSort => String::from_str(alloc, "bad sort")?,
+        Reply::BadAfter => String::from_str(alloc, "bad after")?,
         Reply::TooMany { limit } => format!(in alloc; "too many {limit}")?,
         Reply::ShardFull => String::from_str(alloc, "shard full")?,
     })
@@ -214,43 +270,49 @@ fn said(alloc: Global, reply: Reply) -> Result<String, Fail> {
     reply_text(alloc, &reply)
 }
 
-// Each step is one entry.
-fn take_step(machine: &mut Machine, entry: &Entry) -> Result<Reply, NoMemory>
+// The drop of an entry stands here alone, and that of an event in the next one. Each step is one entry.
+fn take_step(machine: &mut Machine, entry: Entry) -> Result<Reply, NoMemory>
     requires early { machine.old.entries < 2 ^ 53 }
-    requires creates { CreatesSome entry.now.event }
+    requires bounded { IsBounded entry.event }
     ensures { OnOk result (machine.new.entries ≡ machine.old.entries + 1) }
 {
-    machine.step(entry)
+    machine.step(&entry)
+}
+
+fn take_turn(core: &mut Core, event: Event, moment: Moment) -> Result<Turned, NoMemory>
+    requires object { PutsObject event }
+    requires bounded { IsBounded event }
+{
+    core.turn(&event, moment, Brought::Nothing)
 }
 
 fn ask_machine(alloc: Global, machine: &mut Machine, asked: &str) -> Result<Reply, Fail>
     requires { machine.old.entries < 2 ^ 53 }
     ensures { OnOk result (machine.new.entries ≡ machine.old.entries + 1) }
 {
-    let entry = Entry {
-        who: 0,
-        moment: moment(asked)?,
-        event: event(alloc, asked)?,
-    };
-    Ok(take_step(machine, &entry)?)
+    let moment = moment(asked)?;
+    let event = event(alloc, asked)?;
+    let who = 0;
+    Ok(take_step(machine, Entry { who, moment, event })?)
 }
 
 fn ask_core(alloc: Global, core: &mut Core, asked: &str) -> Result<Reply, Fail> {
     let moment = moment(asked)?;
     let event = event(alloc, asked)?;
-    let Turned::Now(reply) = core.turn(&event, moment, Brought::Nothing)?;
+    let Turned::Now(reply) = take_turn(core, event, moment)?;
     Ok(reply)
 }
 
-// Plays a history from the start, on the machine and on the core. Each line begins with milliseconds and ends with the
-// reply that it has to have of both.
-fn plays(rt: &impl Abort, alloc: Global, history: &str) -> Result<(), Fail> {
-    let limits = Limits {
-        pits: 1,
-        entries: 100,
-    };
-    let mut machine = Machine::make(alloc, limits)?;
-    let mut core = Core::make(alloc, limits)?;
+// Each line begins with milliseconds and ends with the reply that it has to have of both.
+fn play(
+    rt: &impl Abort,
+    alloc: Global,
+    machine: &mut Machine,
+    core: &mut Core,
+    history: &str,
+) -> Result<(), Fail>
+    requires { machine.old.entries ≡ 0 }
+{
     let mut steps = 0u64;
     for line in history.lines() {
         if line.is_empty() || line.starts_with('#') {
@@ -259,14 +321,26 @@ fn plays(rt: &impl Abort, alloc: Global, history: &str) -> Result<(), Fail> {
         let (asked, want) = line.split_once(" -> ").ok_or("a reply")?;
         assert!(rt; steps < 100);
         steps += 1;
-        let found = said(alloc, ask_machine(alloc, &mut machine, asked)?)?;
+        let found = said(alloc, ask_machine(alloc, machine, asked)?)?;
         assert_eq!(rt; found.as_str(), want, "the machine at {asked}");
-        let found = said(alloc, ask_core(alloc, &mut core, asked)?)?;
+        let found = said(alloc, ask_core(alloc, core, asked)?)?;
         assert_eq!(rt; found.as_str(), want, "the core at {asked}");
     }
+    Ok(())
+}
+
+// Plays a history from the start, on the machine and on the core.
+fn plays(rt: &impl Abort, alloc: Global, history: &str) -> Result<(), Fail> {
+    let limits = Limits {
+        pits: 1,
+        entries: 100,
+    };
+    let mut machine = Machine::make(alloc, limits)?;
+    let mut core = Core::make(alloc, limits)?;
+    let played = play(rt, alloc, &mut machine, &mut core, history);
     assert_eq!(rt; core.totals().left, 0);
     assert_eq!(rt; core.finish().left, 0);
-    Ok(())
+    played
 }
 
 const ONE_INDEX: &str = "
@@ -305,6 +379,7 @@ fn histories(rt: HostRuntime) -> Result<(), Fail> {
     plays(&rt, alloc, VIEWS)?;
     pages_in_turn();
     sound_states();
+    one_enumeration();
     Ok(())
 }
 
@@ -348,9 +423,39 @@ const SHARDS: &str = "
 0 find logs n 1 -> 2 of 2 logs c logs d skipped 4 of 5
 ";
 
+const SORTED: &str = "
+0 create logs -> done
+0 put logs a n=3 -> created 1
+0 put logs b n=1 -> created 1
+0 put logs c -> created 1
+0 put logs d n=2 -> created 2
+0 put logs f n=2 -> created 1
+0 publish logs 0 1 -> done
+0 publish logs 1 1 -> done
+0 publish logs 2 1 -> done
+0 publish logs 3 2 -> done
+# Five documents: f and d are equal, and c has no number. The first hit is left out.
+0 order logs n asc -> 2 of 5 logs f 2 logs d 2 in 2 steps skipped 1 of 5
+0 order logs n desc -> 2 of 5 logs f 2 logs d 2 in 2 steps skipped 1 of 5
+# Behind a value it is left out too, and all are counted.
+0 order logs n asc 1 -> 2 of 5 logs d 2 logs a 3 in 2 steps skipped 1 of 5
+0 order logs n desc 3 -> 2 of 5 logs d 2 logs b 1 in 2 steps skipped 1 of 5
+0 order logs n asc 3 -> 0 of 5 in 2 steps skipped 1 of 5
+0 order logs m asc -> bad sort
+0 order logs n asc x -> bad after
+0 order logs m asc x -> bad sort
+0 open logs -> opened 1
+0 search 1 -> 2 of 5 logs a 0 logs f 4294967296 skipped 1 of 5
+";
+
 #[test]
 fn indexes_and_shards(rt: HostRuntime) -> Result<(), Fail> {
     plays(&rt, rt.alloc(), SHARDS)
+}
+
+#[test]
+fn searches_in_order(rt: HostRuntime) -> Result<(), Fail> {
+    plays(&rt, rt.alloc(), SORTED)
 }
 
 fn put_op(alloc: Global, id: &str) -> Result<Op, Fail> {
@@ -373,12 +478,7 @@ fn applied(alloc: Global, ops: Vec<Op>) -> Result<Vec<Row>, NoMemory>
 fn empty_page(alloc: Global) -> Result<Answer, Fail> {
     let mapping = mapping_of_n(alloc)?;
     let context = ContextStore::make(alloc, 1, docs(alloc)?, mapping, Vec::new(alloc), 0)?;
-    let request = SearchRequest {
-        query: Query::All,
-        show_place: true,
-        size: 2,
-        after: None,
-    };
+    let request = by_place(alloc, None);
     match search_context(alloc, &context, &request)? {
         Reply::Found(answer) => Ok(answer),
         _ => Err("a page")?,

@@ -35,106 +35,50 @@ fn index_text(alloc: Global, body: &str) -> Result<String, Fail> {
     Ok(found)
 }
 
+const INDEXES: &str = r#"
+ -> 1
+ {}  -> 1
+  -> no json
+[ -> no json
+[] -> shape
+{"settings":{},"mappings":{}} -> 1
+{"settings":{"number_of_shards":1024,"refresh_interval":"-1"}} -> 1024
+{"settings":{"index":{"number_of_shards":"7","number_of_replicas":"0"}}} -> 7
+{"settings":{"number_of_replicas":9,"index":{"number_of_shards":2}}} -> 2
+{"mappings":{"dynamic":"false","properties":{"b":{"type":"long"},"B":{"type":"keyword"}}}} -> 1 k:B l:b
+{"mappings":{"dynamic":false}} -> 1
+{"settings":{},"x":1} -> shape
+{"settings":[]} -> shape
+{"settings":{"number_of_shards":"07"}} -> shape
+{"settings":{"number_of_shards":"+7"}} -> shape
+{"settings":{"number_of_shards":""}} -> shape
+{"settings":{"number_of_shards":1.0}} -> shape
+{"settings":{"number_of_replicas":2147483648}} -> shape
+{"settings":{"number_of_replicas":2147483647}} -> 1
+{"settings":{"refresh_interval":1}} -> shape
+{"settings":{"number_of_shards":1,"index":{"number_of_shards":1}}} -> shape
+{"settings":{"index":{"index":{}}}} -> shape
+{"mappings":{"dynamic":true}} -> shape
+{"mappings":{"properties":{"a":{"type":"text"}}}} -> shape
+{"mappings":{"properties":{"a":{"type":"long","x":1}}}} -> shape
+{"settings":{"number_of_shards":0},"mappings":{"x":1}} -> shape
+{"settings":{"number_of_shards":0}} -> shards
+{"settings":{"number_of_shards":"1025"}} -> shards
+{"mappings":{"properties":{"_x":{"type":"long"}}}} -> fields
+{"mappings":{"properties":{".":{"type":"long"}}}} -> fields
+{"mappings":{"properties":{"":{"type":"keyword"}}}} -> fields
+{"settings":{"number_of_shards":0},"mappings":{"properties":{"_x":{"type":"long"}}}} -> shards
+"#;
+
 #[test]
 fn indexes(rt: HostRuntime) -> Result<(), Fail> {
     let alloc = rt.alloc();
-    for (body, want) in [
-        ("", "1"),
-        (" {} ", "1"),
-        (" ", "no json"),
-        ("[", "no json"),
-        ("[]", "shape"),
-        ("{\"settings\":{},\"mappings\":{}}", "1"),
-        (
-            "{\"settings\":{\"number_of_shards\":1024,\"refresh_interval\":\"-1\"}}",
-            "1024",
-        ),
-        (
-            "{\"settings\":{\"index\":{\"number_of_shards\":\"7\",\"number_of_replicas\":\"0\"}}}",
-            "7",
-        ),
-        (
-            "{\"settings\":{\"number_of_replicas\":9,\"index\":{\"number_of_shards\":2}}}",
-            "2",
-        ),
-        (
-            "{\"mappings\":{\"dynamic\":\"false\",\"properties\":{\"b\":{\"type\":\"long\"},\"B\":{\"type\":\"keyword\"}}}}",
-            "1 k:B l:b",
-        ),
-        ("{\"mappings\":{\"dynamic\":false}}", "1"),
-    ] {
-        let found = index_text(alloc, body)?;
-        assert_eq!(rt; found.as_str(), want, "{body}");
-    }
-    Ok(())
-}
-
-#[test]
-fn indexes_of_other_forms(rt: HostRuntime) -> Result<(), Fail> {
-    let alloc = rt.alloc();
-    for (body, want) in [
-        ("{\"settings\":{},\"x\":1}", "shape"),
-        ("{\"settings\":[]}", "shape"),
-        ("{\"settings\":{\"number_of_shards\":\"07\"}}", "shape"),
-        ("{\"settings\":{\"number_of_shards\":\"+7\"}}", "shape"),
-        ("{\"settings\":{\"number_of_shards\":\"\"}}", "shape"),
-        ("{\"settings\":{\"number_of_shards\":1.0}}", "shape"),
-        (
-            "{\"settings\":{\"number_of_replicas\":2147483648}}",
-            "shape",
-        ),
-        ("{\"settings\":{\"number_of_replicas\":2147483647}}", "1"),
-        ("{\"settings\":{\"refresh_interval\":1}}", "shape"),
-        (
-            "{\"settings\":{\"number_of_shards\":1,\"index\":{\"number_of_shards\":1}}}",
-            "shape",
-        ),
-        ("{\"settings\":{\"index\":{\"index\":{}}}}", "shape"),
-        ("{\"mappings\":{\"dynamic\":true}}", "shape"),
-        (
-            "{\"mappings\":{\"properties\":{\"a\":{\"type\":\"text\"}}}}",
-            "shape",
-        ),
-        (
-            "{\"mappings\":{\"properties\":{\"a\":{\"type\":\"long\",\"x\":1}}}}",
-            "shape",
-        ),
-        (
-            "{\"settings\":{\"number_of_shards\":0},\"mappings\":{\"x\":1}}",
-            "shape",
-        ),
-    ] {
-        let found = index_text(alloc, body)?;
-        assert_eq!(rt; found.as_str(), want, "{body}");
-    }
-    Ok(())
-}
-
-#[test]
-fn indexes_beyond_limits(rt: HostRuntime) -> Result<(), Fail> {
-    let alloc = rt.alloc();
-    for (body, want) in [
-        ("{\"settings\":{\"number_of_shards\":0}}", "shards"),
-        ("{\"settings\":{\"number_of_shards\":\"1025\"}}", "shards"),
-        (
-            "{\"mappings\":{\"properties\":{\"_x\":{\"type\":\"long\"}}}}",
-            "fields",
-        ),
-        (
-            "{\"mappings\":{\"properties\":{\".\":{\"type\":\"long\"}}}}",
-            "fields",
-        ),
-        (
-            "{\"mappings\":{\"properties\":{\"\":{\"type\":\"keyword\"}}}}",
-            "fields",
-        ),
-        (
-            "{\"settings\":{\"number_of_shards\":0},\"mappings\":{\"properties\":{\"_x\":{\"type\":\"long\"}}}}",
-            "shards",
-        ),
-    ] {
-        let found = index_text(alloc, body)?;
-        assert_eq!(rt; found.as_str(), want, "{body}");
+    for line in INDEXES.lines() {
+        if !line.is_empty() {
+            let (body, want) = line.split_once(" -> ").ok_or("an index")?;
+            let found = index_text(alloc, body)?;
+            assert_eq!(rt; found.as_str(), want, "{body}");
+        }
     }
     Ok(())
 }
@@ -182,29 +126,29 @@ fn doc_text(alloc: Global, body: &str) -> Result<String, Fail> {
     Ok(found)
 }
 
+const DOCUMENTS: &str = r#"
+{} -> 2
+[ -> no json
+[] -> shape
+ -> no json
+{"b":"x","a":-5,"b":null} -> 25 a=-5 b=null
+{"a":1.5,"b":true,"c":[1],"d":{"e":1}} -> 38 a=other b=other c=other d=other
+{"a":9223372036854775807,"b":9223372036854775808} -> 49 a=9223372036854775807 b=other
+{"":""} -> 7 =''
+"#;
+
 #[test]
 fn documents(rt: HostRuntime) -> Result<(), Fail> {
     let alloc = rt.alloc();
-    for (body, want) in [
-        ("{}", "2"),
-        (" \r\n\t{ } \n", "3"),
-        ("[", "no json"),
-        ("[]", "shape"),
-        ("", "no json"),
-        ("{\"b\":\"x\",\"a\":-5,\"b\":null}", "25 a=-5 b=null"),
-        (
-            "{\"a\":1.5,\"b\":true,\"c\":[1],\"d\":{\"e\":1}}",
-            "38 a=other b=other c=other d=other",
-        ),
-        (
-            "{\"a\":9223372036854775807,\"b\":9223372036854775808}",
-            "49 a=9223372036854775807 b=other",
-        ),
-        ("{\"\":\"\"}", "7 =''"),
-    ] {
-        let found = doc_text(alloc, body)?;
-        assert_eq!(rt; found.as_str(), want, "{body}");
+    for line in DOCUMENTS.lines() {
+        if !line.is_empty() {
+            let (body, want) = line.split_once(" -> ").ok_or("a document")?;
+            let found = doc_text(alloc, body)?;
+            assert_eq!(rt; found.as_str(), want, "{body}");
+        }
     }
+    let found = doc_text(alloc, " \r\n\t{ } \n")?;
+    assert_eq!(rt; found.as_str(), "3");
     Ok(())
 }
 
@@ -242,39 +186,40 @@ fn bulk_text(alloc: Global, index: Option<&Text>, body: &str) -> Result<String, 
     Ok(found)
 }
 
+// A stroke stands for a line feed.
+const BULKS: &str = r#"
+ -> 
+{"index":{"_id":"a"}}|{"n":1}|{"delete":{"_id":"b"}}| -> r/a:7,30 r/b:0,53 
+{"delete":{"_id":"","_index":"-"}}| -> -/:0,35 
+{"index":{"_id":"a"}}| | -> r/a:1,24 
+{"index":{"_id":"a"}}|{} -> shape
+{"index":{"_id":"a"}}|| -> shape
+{"index":{"_id":"a"}}| -> shape
+{"delete":{"_id":"a"}}|| -> r/a:0,23 shape
+{"delete":{"_id":"a"}} -> shape
+| -> shape
+{| -> no json
+[]| -> shape
+{}| -> shape
+{"create":{"_id":"a"}}| -> shape
+{"delete":{"_id":"a"},"index":{"_id":"a"}}| -> shape
+{"delete":{"_id":1}}| -> shape
+{"delete":{"_index":"x"}}| -> shape
+{"delete":{"_id":"a","_index":null}}| -> shape
+{"delete":{"_id":"a","x":1}}| -> shape
+"#;
+
 #[test]
 fn bulks(rt: HostRuntime) -> Result<(), Fail> {
     let alloc = rt.alloc();
     let r = text(alloc, "r")?;
-    for (body, want) in [
-        ("", ""),
-        (
-            "{\"index\":{\"_id\":\"a\"}}\n{\"n\":1}\n{\"delete\":{\"_id\":\"b\"}}\n",
-            "r/a:7,30 r/b:0,53 ",
-        ),
-        ("{\"delete\":{\"_id\":\"\",\"_index\":\"-\"}}\n", "-/:0,35 "),
-        ("{\"index\":{\"_id\":\"a\"}}\n \n", "r/a:1,24 "),
-        ("{\"index\":{\"_id\":\"a\"}}\n{}", "shape"),
-        ("{\"index\":{\"_id\":\"a\"}}\n\n", "shape"),
-        ("{\"index\":{\"_id\":\"a\"}}\n", "shape"),
-        ("{\"delete\":{\"_id\":\"a\"}}\n\n", "r/a:0,23 shape"),
-        ("{\"delete\":{\"_id\":\"a\"}}", "shape"),
-        ("\n", "shape"),
-        ("{\n", "no json"),
-        ("[]\n", "shape"),
-        ("{}\n", "shape"),
-        ("{\"create\":{\"_id\":\"a\"}}\n", "shape"),
-        (
-            "{\"delete\":{\"_id\":\"a\"},\"index\":{\"_id\":\"a\"}}\n",
-            "shape",
-        ),
-        ("{\"delete\":{\"_id\":1}}\n", "shape"),
-        ("{\"delete\":{\"_index\":\"x\"}}\n", "shape"),
-        ("{\"delete\":{\"_id\":\"a\",\"_index\":null}}\n", "shape"),
-        ("{\"delete\":{\"_id\":\"a\",\"x\":1}}\n", "shape"),
-    ] {
-        let found = bulk_text(alloc, Some(&r), body)?;
-        assert_eq!(rt; found.as_str(), want, "{body}");
+    for line in BULKS.lines() {
+        if !line.is_empty() {
+            let (body, want) = line.split_once(" -> ").ok_or("items")?;
+            let body = body.replace(alloc, "|", "\n")?;
+            let found = bulk_text(alloc, Some(&r), body.as_str())?;
+            assert_eq!(rt; found.as_str(), want, "{body}");
+        }
     }
     let found = bulk_text(alloc, None, "{\"delete\":{\"_id\":\"a\"}}\n")?;
     assert_eq!(rt; found.as_str(), "shape");

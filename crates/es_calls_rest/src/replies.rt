@@ -1,6 +1,6 @@
 //! The calls of `reply_json`.
 use crate::given::{bytes, doc_id, index, text};
-use es_types::{DocCause, DocFault, Items, LimitName, NoMemory, Value};
+use es_types::{Bytes, DocCause, DocFault, Items, LimitName, NoMemory, Value};
 use list_machine::{Answer, Counts, Hit, Reply, Wrote};
 use reply_json::{
     BulkLine, BulkOutcome, Response, RestFault, RouteName, id_text, no_memory_text, print,
@@ -33,15 +33,20 @@ fn whole(alloc: Global, status: u16, body: &str) -> Result<String, NoMemory> {
     )
 }
 
+// The drop of a response stands here alone, since a proof has it again at each return of a function that owns one.
+fn printed(alloc: Global, response: Response, last: bool) -> Result<Bytes, NoMemory> {
+    print(alloc, &response, last)
+}
+
 fn prints(
     rt: &impl Abort,
     alloc: Global,
-    response: &Response,
+    response: Response,
     status: u16,
     body: &str,
 ) -> Result<(), Fail> {
+    let found = printed(alloc, response, false)?;
     let want = whole(alloc, status, body)?;
-    let found = print(alloc, response, false)?;
     assert_eq!(rt; found.as_slice(), want.as_bytes(), "{body}");
     Ok(())
 }
@@ -54,15 +59,15 @@ fn reply(route: RouteName, reply: Reply, status: u16) -> Response {
     }
 }
 
+fn opening() -> Response {
+    reply(RouteName::OpenPit, Reply::Opened { number: 1 }, 200)
+}
+
 #[test]
 fn an_opening(rt: HostRuntime) -> Result<(), Fail> {
     let alloc = rt.alloc();
-    let response = reply(RouteName::OpenPit, Reply::Opened { number: 1 }, 200);
-    let kept = print(alloc, &response, false)?;
-    let want =
-        "HTTP/1.1 200 OK\r\ncontent-type: application/json\r\ncontent-length: 21\r\n\r\n{\"id\":\"UAAAAAAAAAAB\"}";
-    assert_eq!(rt; kept.as_slice(), want.as_bytes());
-    let last = print(alloc, &response, true)?;
+    prints(&rt, alloc, opening(), 200, "{\"id\":\"UAAAAAAAAAAB\"}")?;
+    let last = printed(alloc, opening(), true)?;
     let want =
         "HTTP/1.1 200 OK\r\ncontent-type: application/json\r\ncontent-length: 21\r\nconnection: close\r\n\r\n{\"id\":\"UAAAAAAAAAAB\"}";
     assert_eq!(rt; last.as_slice(), want.as_bytes());
@@ -90,7 +95,7 @@ fn a_new_index(rt: HostRuntime) -> Result<(), Fail> {
         index: index(alloc, "t")?,
     };
     let body = "{\"acknowledged\":true,\"shards_acknowledged\":true,\"index\":\"t\"}";
-    prints(&rt, alloc, &reply(route, Reply::Done, 200), 200, body)
+    prints(&rt, alloc, reply(route, Reply::Done, 200), 200, body)
 }
 
 #[test]
@@ -99,10 +104,10 @@ fn a_refresh(rt: HostRuntime) -> Result<(), Fail> {
     let sealed = Reply::Sealed(Items::of(vec![in alloc; 0, 7]?));
     let body = "{\"_shards\":{\"total\":2,\"successful\":2,\"failed\":0}}";
     let response = reply(RouteName::Refresh, sealed, 200);
-    prints(&rt, alloc, &response, 200, body)?;
+    prints(&rt, alloc, response, 200, body)?;
     // A reply that the route does not give has no body.
     let response = reply(RouteName::Refresh, Reply::Done, 200);
-    prints(&rt, alloc, &response, 200, "")
+    prints(&rt, alloc, response, 200, "")
 }
 
 // What is said of a document where this was done with it.
@@ -114,6 +119,9 @@ fn says(
     status: u16,
     word: &str,
 ) -> Result<(), Fail> {
+    let body = format!(in alloc;
+        "{{\"_index\":\"t\",\"_id\":\"a\",\"result\":\"{word}\",\"_seq_no\":7}}"
+    )?;
     let index = index(alloc, "t")?;
     let id = doc_id(alloc, "a")?;
     let route = if remove {
@@ -126,10 +134,7 @@ fn says(
         seq: 8,
     };
     let response = reply(route, wrote, wrote_status(did));
-    let body = format!(in alloc;
-        "{{\"_index\":\"t\",\"_id\":\"a\",\"result\":\"{word}\",\"_seq_no\":7}}"
-    )?;
-    prints(rt, alloc, &response, status, body.as_str())
+    prints(rt, alloc, response, status, body.as_str())
 }
 
 #[test]
@@ -177,7 +182,7 @@ fn a_page(rt: HostRuntime) -> Result<(), Fail> {
     let response = reply(RouteName::Search { pit: Some(1) }, found, 200);
     let body =
         "{\"pit_id\":\"UAAAAAAAAAAB\",\"took\":0,\"timed_out\":false,\"_shards\":{\"total\":2,\"successful\":2,\"skipped\":0,\"failed\":0},\"hits\":{\"total\":{\"value\":2,\"relation\":\"eq\"},\"max_score\":null,\"hits\":[{\"_index\":\"i\",\"_id\":\"a\",\"_score\":null,\"_source\":{\"n\":1},\"sort\":[0]},{\"_index\":\"i\",\"_id\":\"b\",\"_score\":null,\"_source\":{\"n\":2},\"sort\":[-1]}]}}";
-    prints(&rt, alloc, &response, 200, body)
+    prints(&rt, alloc, response, 200, body)
 }
 
 #[test]
@@ -198,7 +203,7 @@ fn a_page_of_an_index(rt: HostRuntime) -> Result<(), Fail> {
     let response = reply(RouteName::Search { pit: None }, found, 200);
     let body =
         "{\"took\":0,\"timed_out\":false,\"num_reduce_phases\":2,\"_shards\":{\"total\":3,\"successful\":3,\"skipped\":1,\"failed\":0},\"hits\":{\"total\":{\"value\":1,\"relation\":\"eq\"},\"max_score\":null,\"hits\":[{\"_index\":\"i\",\"_id\":\"a\",\"_score\":null,\"_source\":{}}]}}";
-    prints(&rt, alloc, &response, 200, body)
+    prints(&rt, alloc, response, 200, body)
 }
 
 fn wrote(alloc: Global, remove: bool, id: &str, did: Wrote, seq: u64) -> Result<BulkLine, Fail> {
@@ -227,7 +232,7 @@ fn a_bulk_of_none(rt: HostRuntime) -> Result<(), Fail> {
     let alloc = rt.alloc();
     let response = Response::Bulk(Items::of(Vec::new(alloc)));
     let body = "{\"took\":0,\"errors\":false,\"items\":[]}";
-    prints(&rt, alloc, &response, 200, body)
+    prints(&rt, alloc, response, 200, body)
 }
 
 #[test]
@@ -238,7 +243,7 @@ fn a_bulk_with_a_refused_item(rt: HostRuntime) -> Result<(), Fail> {
     let response = Response::Bulk(Items::of(vec![in alloc; first, second]?));
     let body =
         "{\"took\":0,\"errors\":true,\"items\":[{\"index\":{\"_index\":\"t\",\"_id\":\"a\",\"result\":\"created\",\"_seq_no\":0,\"status\":201}},{\"index\":{\"_index\":\"t\",\"_id\":\"b\",\"status\":400,\"error\":{\"type\":\"document_parsing_exception\",\"reason\":\"field [0] has a value of another kind\"}}}]}";
-    prints(&rt, alloc, &response, 200, body)
+    prints(&rt, alloc, response, 200, body)
 }
 
 #[test]
@@ -249,30 +254,116 @@ fn a_bulk_carried_out(rt: HostRuntime) -> Result<(), Fail> {
     let response = Response::Bulk(Items::of(vec![in alloc; first, second]?));
     let body =
         "{\"took\":0,\"errors\":false,\"items\":[{\"delete\":{\"_index\":\"t\",\"_id\":\"a\",\"result\":\"deleted\",\"_seq_no\":2,\"status\":200}},{\"delete\":{\"_index\":\"t\",\"_id\":\"\\\"\",\"result\":\"not_found\",\"_seq_no\":3,\"status\":404}}]}";
-    prints(&rt, alloc, &response, 200, body)
+    prints(&rt, alloc, response, 200, body)
 }
 
-// A request that is refused for this is answered with that status, type and reason, as JSON writes it.
-fn refuses(
-    rt: &impl Abort,
-    alloc: Global,
-    fault: RestFault,
-    status: u16,
-    kind: &str,
-    reason: &str,
-) -> Result<(), Fail> {
+// A fault by its name, and what it is about.
+fn fault(alloc: Global, name: &str, about: &str) -> Result<RestFault, Fail> {
+    match name {
+        "parameter" => Ok(RestFault::BadParam(text(alloc, about)?)),
+        "no-index" => Ok(RestFault::NoIndex(text(alloc, about)?)),
+        "exists" => Ok(RestFault::Exists(text(alloc, about)?)),
+        "no-context" => Ok(RestFault::NoContext(text(alloc, about)?)),
+        "limit" => Ok(RestFault::Limit(limit(about)?)),
+        "kind" => Ok(bad_doc(12, DocCause::Kind)),
+        "long" => Ok(bad_doc(0, DocCause::TooLong)),
+        "too-many" => Ok(RestFault::TooMany(2)),
+        _ => plain(name),
+    }
+}
+
+// A fault that is about nothing else.
+fn plain(name: &str) -> Result<RestFault, Fail> {
+    Ok(match name {
+        "query" => RestFault::BadQuery,
+        "sort" => RestFault::BadSort,
+        "after" => RestFault::BadAfter,
+        "body" => RestFault::BadBody,
+        "spent" => RestFault::Spent,
+        "full" => RestFault::ShardFull,
+        "memory" => RestFault::NoMemory,
+        "not-built" => RestFault::NotBuilt,
+        _ => Err("a fault")?,
+    })
+}
+
+fn bad_doc(field: u32, cause: DocCause) -> RestFault {
+    RestFault::BadDoc(DocFault { field, cause })
+}
+
+fn limit(name: &str) -> Result<LimitName, Fail> {
+    Ok(match name {
+        "index" => LimitName::Index,
+        "id" => LimitName::Id,
+        "shards" => LimitName::Shards,
+        "fields" => LimitName::Fields,
+        "pit" => LimitName::Pit,
+        "from" => LimitName::From,
+        "window" => LimitName::Window,
+        "sort" => LimitName::Sort,
+        _ => Err("a limit")?,
+    })
+}
+
+// Each line has a fault and what it is about, and the status, type and reason of its response as JSON writes them.
+const FAULTS: &str = r#"
+parameter "q -> 400 illegal_argument_exception: bad parameter [\"q]
+limit index -> 400 illegal_argument_exception: limit [index]
+limit id -> 400 illegal_argument_exception: limit [id]
+limit shards -> 400 illegal_argument_exception: limit [shards]
+limit fields -> 400 illegal_argument_exception: limit [fields]
+limit pit -> 400 illegal_argument_exception: limit [pit]
+limit from -> 400 illegal_argument_exception: limit [from]
+limit window -> 400 illegal_argument_exception: limit [window]
+limit sort -> 400 illegal_argument_exception: limit [sort]
+query  -> 400 query_shard_exception: a query value of another kind
+sort  -> 400 query_shard_exception: no mapping for a sort field
+after  -> 400 illegal_argument_exception: search_after does not fit the sort
+body  -> 400 parsing_exception: bad body
+kind  -> 400 document_parsing_exception: field [12] has a value of another kind
+long  -> 400 document_parsing_exception: field [0] has a value that is too long
+no-index t -> 404 index_not_found_exception: no such index [t]
+exists t -> 400 resource_already_exists_exception: index [t] exists
+no-context x -> 404 search_context_missing_exception: no context [x]
+spent  -> 429 history_full_exception: history is full
+too-many  -> 429 too_many_contexts_exception: limit [2]
+full  -> 429 shard_full_exception: shard is full
+memory  -> 503 no_memory_exception: no memory
+not-built  -> 501 not_built_exception: not built
+"#;
+
+// The text of a response that refuses a request for this.
+fn refusal(alloc: Global, status: u16, said: &str) -> Result<String, Fail> {
+    let (kind, reason) = said.split_once(": ").ok_or("a type")?;
     let cause = format!(in alloc; "\"type\":\"{kind}\",\"reason\":\"{reason}\"")?;
     let body = format!(in alloc;
         "{{\"error\":{{\"root_cause\":[{{{cause}}}],{cause}}},\"status\":{status}}}"
     )?;
-    prints(rt, alloc, &Response::Fault(fault), status, body.as_str())
+    Ok(whole(alloc, status, body.as_str())?)
+}
+
+#[test]
+fn refusals(rt: HostRuntime) -> Result<(), Fail> {
+    let alloc = rt.alloc();
+    for line in FAULTS.lines() {
+        if !line.is_empty() {
+            let (refused, said) = line.split_once(" -> ").ok_or("a response")?;
+            let (name, about) = refused.split_once(' ').ok_or("a fault")?;
+            let (status, said) = said.split_once(' ').ok_or("a status")?;
+            let status = status.parse::<u16>().ok().ok_or("a status")?;
+            let want = refusal(alloc, status, said)?;
+            let fault = fault(alloc, name, about)?;
+            let found = printed(alloc, Response::Fault(fault), false)?;
+            assert_eq!(rt; found.as_slice(), want.as_bytes(), "{line}");
+        }
+    }
+    Ok(())
 }
 
 #[test]
 fn a_refusal_that_ends_its_connection(rt: HostRuntime) -> Result<(), Fail> {
     let alloc = rt.alloc();
-    let response = Response::Fault(RestFault::TooMany(500));
-    let found = print(alloc, &response, true)?;
+    let found = printed(alloc, Response::Fault(RestFault::TooMany(500)), true)?;
     let want =
         "HTTP/1.1 429 Too Many Requests\r\ncontent-type: application/json\r\ncontent-length: 161\r\nconnection: close\r\n\r\n{\"error\":{\"root_cause\":[{\"type\":\"too_many_contexts_exception\",\"reason\":\"limit [500]\"}],\"type\":\"too_many_contexts_exception\",\"reason\":\"limit [500]\"},\"status\":429}";
     assert_eq!(rt; found.as_slice(), want.as_bytes());
@@ -280,102 +371,11 @@ fn a_refusal_that_ends_its_connection(rt: HostRuntime) -> Result<(), Fail> {
 }
 
 #[test]
-fn refused_for_itself(rt: HostRuntime) -> Result<(), Fail> {
-    let alloc = rt.alloc();
-    let kind = "illegal_argument_exception";
-    let fault = RestFault::BadParam(text(alloc, "\"q")?);
-    refuses(&rt, alloc, fault, 400, kind, "bad parameter [\\\"q]")?;
-    let fault = RestFault::Limit(LimitName::Index);
-    refuses(&rt, alloc, fault, 400, kind, "limit [index]")?;
-    let fault = RestFault::Limit(LimitName::Id);
-    refuses(&rt, alloc, fault, 400, kind, "limit [id]")?;
-    let fault = RestFault::Limit(LimitName::Shards);
-    refuses(&rt, alloc, fault, 400, kind, "limit [shards]")?;
-    let fault = RestFault::Limit(LimitName::Fields);
-    refuses(&rt, alloc, fault, 400, kind, "limit [fields]")?;
-    let fault = RestFault::Limit(LimitName::Pit);
-    refuses(&rt, alloc, fault, 400, kind, "limit [pit]")?;
-    let fault = RestFault::Limit(LimitName::Window);
-    refuses(&rt, alloc, fault, 400, kind, "limit [window]")?;
-    let kind = "query_shard_exception";
-    let reason = "a query value of another kind";
-    refuses(&rt, alloc, RestFault::BadQuery, 400, kind, reason)?;
-    refuses(
-        &rt,
-        alloc,
-        RestFault::BadBody,
-        400,
-        "parsing_exception",
-        "bad body",
-    )
-}
-
-#[test]
-fn refused_for_its_document(rt: HostRuntime) -> Result<(), Fail> {
-    let alloc = rt.alloc();
-    let kind = "document_parsing_exception";
-    let fault = RestFault::BadDoc(DocFault {
-        field: 12,
-        cause: DocCause::Kind,
-    });
-    refuses(
-        &rt,
-        alloc,
-        fault,
-        400,
-        kind,
-        "field [12] has a value of another kind",
-    )?;
-    let fault = RestFault::BadDoc(DocFault {
-        field: 0,
-        cause: DocCause::TooLong,
-    });
-    refuses(
-        &rt,
-        alloc,
-        fault,
-        400,
-        kind,
-        "field [0] has a value that is too long",
-    )
-}
-
-#[test]
-fn refused_for_what_is_there(rt: HostRuntime) -> Result<(), Fail> {
-    let alloc = rt.alloc();
-    let fault = RestFault::NoIndex(text(alloc, "t")?);
-    let kind = "index_not_found_exception";
-    refuses(&rt, alloc, fault, 404, kind, "no such index [t]")?;
-    let fault = RestFault::Exists(text(alloc, "t")?);
-    let kind = "resource_already_exists_exception";
-    refuses(&rt, alloc, fault, 400, kind, "index [t] exists")?;
-    let fault = RestFault::NoContext(text(alloc, "x")?);
-    let kind = "search_context_missing_exception";
-    refuses(&rt, alloc, fault, 404, kind, "no context [x]")
-}
-
-#[test]
-fn refused_for_want_of_room(rt: HostRuntime) -> Result<(), Fail> {
-    let alloc = rt.alloc();
-    let kind = "history_full_exception";
-    refuses(&rt, alloc, RestFault::Spent, 429, kind, "history is full")?;
-    let kind = "too_many_contexts_exception";
-    refuses(&rt, alloc, RestFault::TooMany(2), 429, kind, "limit [2]")?;
-    let kind = "shard_full_exception";
-    refuses(&rt, alloc, RestFault::ShardFull, 429, kind, "shard is full")?;
-    let kind = "no_memory_exception";
-    refuses(&rt, alloc, RestFault::NoMemory, 503, kind, "no memory")?;
-    let kind = "not_built_exception";
-    refuses(&rt, alloc, RestFault::NotBuilt, 501, kind, "not built")
-}
-
-#[test]
 fn without_memory(rt: HostRuntime) -> Result<(), Fail> {
     let alloc = rt.alloc();
-    let response = Response::Fault(RestFault::NoMemory);
-    let kept = print(alloc, &response, false)?;
+    let kept = printed(alloc, Response::Fault(RestFault::NoMemory), false)?;
     assert_eq!(rt; no_memory_text(false), kept.as_slice());
-    let last = print(alloc, &response, true)?;
+    let last = printed(alloc, Response::Fault(RestFault::NoMemory), true)?;
     assert_eq!(rt; no_memory_text(true), last.as_slice());
     Ok(())
 }

@@ -21,157 +21,149 @@ fn request(alloc: Global, stream: &[u8]) -> Result<Request, Fail> {
     }
 }
 
-// What a request asks for, or why it is refused, in a word.
-fn word(asked: &Result<Ask, RestFault>) -> &'static str {
-    match asked {
-        Ok(Ask::Create { index: _, spec: _ }) => "create",
-        Ok(
-            Ask::Put {
-                index: _,
-                id: _,
-                doc: _,
-                refresh: _,
-            },
-        ) => "put",
-        Ok(
-            Ask::Remove {
-                index: _,
-                id: _,
-                refresh: _,
-            },
-        ) => "remove",
-        Ok(
-            Ask::Bulk {
-                index: _,
-                body: _,
-                refresh: _,
-            },
-        ) => "bulk",
-        Ok(Ask::Refresh { index: _ }) => "refresh",
-        Ok(Ask::OpenPit { index: _, keep: _ }) => "open",
-        Ok(
-            Ask::Search {
-                target: _,
-                request: _,
-            },
-        ) => "search",
-        Err(RestFault::NotBuilt) => "not built",
-        Err(RestFault::BadBody) => "bad body",
-        Err(RestFault::BadParam(_)) => "bad parameter",
-        Err(RestFault::Limit(_)) => "limit",
-        Err(_) => "another fault",
+// What a request asks for: the event, and for a search what is searched.
+fn ask_text(alloc: Global, ask: &Ask) -> Result<String, NoMemory> {
+    let word = match ask {
+        Ask::Create { index: _, spec: _ } => "create",
+        Ask::Put {
+            index: _,
+            id: _,
+            doc: _,
+            refresh: _,
+        } => "put",
+        Ask::Remove {
+            index: _,
+            id: _,
+            refresh: _,
+        } => "remove",
+        Ask::Bulk {
+            index: _,
+            body: _,
+            refresh: _,
+        } => "bulk",
+        Ask::Refresh { index: _ } => "refresh",
+        Ask::OpenPit { index: _, keep: _ } => "open",
+        Ask::Search { target, request: _ } => return target_text(alloc, target),
+    };
+    String::from_str(alloc, word)
+}
+
+fn target_text(alloc: Global, target: &Target) -> Result<String, NoMemory> {
+    match target {
+        Target::Index(index) => String::from_str(alloc, index.text().as_str()),
+        Target::Pit { number } => format!(in alloc; "{number}"),
     }
 }
 
-fn asked(alloc: Global, line: &str) -> Result<&'static str, Fail> {
-    let head = format!(in alloc; "{line} HTTP/1.1\r\n\r\n")?;
-    let request = request(alloc, head.as_bytes())?;
-    Ok(word(&route(alloc, 0, &request)))
-}
-
-#[test]
-fn requests_without_a_body(rt: HostRuntime) -> Result<(), Fail> {
-    let alloc = rt.alloc();
-    for (line, wanted) in [
-        ("PUT /t", "create"),
-        ("DELETE /t/_doc/a", "remove"),
-        ("DELETE /t/_doc/a%2Fb?refresh", "remove"),
-        ("GET /t/_refresh", "refresh"),
-        ("POST /t/_refresh", "refresh"),
-        ("POST /docs/_pit?keep_alive=1m", "open"),
-        ("POST /t/_pit?keep_alive=1m", "not built"),
-        ("GET /", "not built"),
-        ("PUT /t/", "not built"),
-        ("PUT /_t", "not built"),
-        ("PUT /t//_doc/a", "not built"),
-        ("PUT /T", "limit"),
-        ("PUT /%54", "limit"),
-        ("PUT /t%FF", "bad parameter"),
-        ("PUT /t/_doc/a", "bad body"),
-        ("PUT /t/_doc/a?refresh=yes", "bad parameter"),
-        ("POST /_bulk", "bad body"),
-    ] {
-        assert_eq!(rt; asked(alloc, line)?, wanted, "{line}");
-    }
-    Ok(())
-}
-
-// What a search names, or why the request is refused.
-fn named(alloc: Global, asked: &Result<Ask, RestFault>) -> Result<String, NoMemory> {
-    match asked {
-        Ok(
-            Ask::Search {
-                target: Target::Index(index),
-                request: _,
-            },
-        ) => String::from_str(alloc, index.text().as_str()),
-        Ok(
-            Ask::Search {
-                target: Target::Pit { number },
-                request: _,
-            },
-        ) => format!(in alloc; "{number}"),
-        Err(RestFault::BadParam(name)) => format!(in alloc; "?{}", name.as_str()),
-        Err(RestFault::Limit(LimitName::Index)) => String::from_str(alloc, "index"),
-        Err(RestFault::Limit(LimitName::Pit)) => String::from_str(alloc, "pit"),
-        Err(RestFault::Limit(LimitName::Window)) => String::from_str(alloc, "window"),
-        other => String::from_str(alloc, word(other)),
+fn limit_word(name: LimitName) -> &'static str {
+    match name {
+        LimitName::Index => "index",
+        LimitName::Pit => "pit",
+        LimitName::From => "from",
+        LimitName::Window => "window",
+        LimitName::Sort => "sort",
+        _ => "another limit",
     }
 }
 
-// The same of a request with a body, where three points in time were opened.
-fn searched(alloc: Global, line: &str, body: &str) -> Result<String, Fail> {
-    let head = format!(in alloc;
-        "{line} HTTP/1.1\r\ncontent-length: {}\r\n\r\n{body}",
+fn fault_text(alloc: Global, fault: &RestFault) -> Result<String, NoMemory> {
+    match fault {
+        RestFault::NotBuilt => String::from_str(alloc, "not built"),
+        RestFault::BadBody => String::from_str(alloc, "bad body"),
+        RestFault::BadParam(name) => format!(in alloc; "?{}", name.as_str()),
+        RestFault::Limit(name) => String::from_str(alloc, limit_word(*name)),
+        _ => String::from_str(alloc, "another fault"),
+    }
+}
+
+// What a request asks for, or why it is refused, where three points in time were opened.
+fn asked(alloc: Global, request: &Request) -> Result<String, NoMemory> {
+    match route(alloc, 3, request) {
+        Ok(ask) => ask_text(alloc, &ask),
+        Err(fault) => fault_text(alloc, &fault),
+    }
+}
+
+// The request of a line: a method, a target and perhaps a body.
+fn read(alloc: Global, line: &str) -> Result<Request, Fail> {
+    let (method, rest) = line.split_once(' ').ok_or("a method")?;
+    let (target, body) = rest.split_once(' ').unwrap_or((rest, ""));
+    let stream = format!(in alloc;
+        "{method} {target} HTTP/1.1\r\ncontent-length: {}\r\n\r\n{body}",
         body.len()
     )?;
-    let request = request(alloc, head.as_bytes())?;
-    Ok(named(alloc, &route(alloc, 3, &request))?)
+    request(alloc, stream.as_bytes())
 }
 
+const REQUESTS: &str = r#"
+PUT /t -> create
+DELETE /t/_doc/a -> remove
+DELETE /t/_doc/a%2Fb?refresh -> remove
+GET /t/_refresh -> refresh
+POST /t/_refresh -> refresh
+POST /docs/_pit?keep_alive=1m -> open
+POST /t/_pit?keep_alive=1m -> open
+POST /%74/_pit?keep_alive=1m -> open
+POST /T/_pit?keep_alive=1m -> index
+POST /t%FF/_pit?keep_alive=1m -> ?index
+POST /_t/_pit?keep_alive=1m -> not built
+POST /t/_pit?keep_alive=2m -> not built
+POST /t/_pit -> not built
+GET /t/_pit?keep_alive=1m -> not built
+GET / -> not built
+PUT /t/ -> not built
+PUT /_t -> not built
+PUT /t//_doc/a -> not built
+PUT /T -> index
+PUT /%54 -> index
+PUT /t%FF -> ?index
+PUT /t/_doc/a -> bad body
+PUT /t/_doc/a?refresh=yes -> ?refresh
+POST /_bulk -> bad body
+GET /t/_search -> t
+POST /t/_search {"size":1} -> t
+GET /%74/_search {} -> t
+GET /_search {"pit":{"id":"UAAAAAAAAAAB"}} -> 1
+POST /_search {"pit":{"id":"UAAAAAAAAAAD"}} -> 3
+POST /_search {"pit":{"id":"UAAAAAAAAAAE"}} -> not built
+PUT /t/_search -> not built
+DELETE /_search [ -> not built
+GET /_t/_search -> not built
+GET /t/_search/ -> not built
+GET /t/_search?pretty [ -> not built
+GET /_search?q=a&pretty=false -> not built
+GET /t/_search?batched_reduce_size=2 -> not built
+GET /_search?batched_reduce_size=2 -> not built
+GET /t%FF/_search?q=a&scroll=1m -> not built
+GET /_search?scroll=1m -> ?scroll
+GET /t%FF/_search?q=a {"slice":1} -> not built
+GET /t%FF/_search?q=a {"from":1} -> ?index
+GET /T/_search {"sort":"_score"} -> index
+GET /t/_search {"sort":"_score"} -> sort
+GET /t/_search {"from":1,"search_after":[],"sort":"_score"} -> from
+GET /t%FF/_search?q=a [ -> ?index
+GET /t/_search?q=a&size=3 [ -> ?q
+GET /t/_search?refresh=true -> ?refresh
+GET /T/_search [ -> bad body
+GET /T/_search {"x":1} -> bad body
+GET /T/_search {"size":10001} -> index
+GET /T/_search -> index
+GET /t/_search {"size":10001} -> window
+GET /t/_search {"pit":{"id":"UAAAAAAAAAAB"}} -> pit
+GET /_search -> pit
+GET /_search [] -> bad body
+"#;
+
 #[test]
-fn searches(rt: HostRuntime) -> Result<(), Fail> {
+fn requests(rt: HostRuntime) -> Result<(), Fail> {
     let alloc = rt.alloc();
-    for (line, body, wanted) in [
-        ("GET /t/_search", "", "t"),
-        ("POST /t/_search", "{\"size\":1}", "t"),
-        ("GET /%74/_search", "{}", "t"),
-        ("GET /_search", "{\"pit\":{\"id\":\"UAAAAAAAAAAB\"}}", "1"),
-        ("POST /_search", "{\"pit\":{\"id\":\"UAAAAAAAAAAD\"}}", "3"),
-        (
-            "POST /_search",
-            "{\"pit\":{\"id\":\"UAAAAAAAAAAE\"}}",
-            "not built",
-        ),
-        ("PUT /t/_search", "", "not built"),
-        ("DELETE /_search", "[", "not built"),
-        ("GET /_t/_search", "", "not built"),
-        ("GET /t/_search/", "", "not built"),
-        ("GET /t/_search?pretty", "[", "not built"),
-        ("GET /_search?q=a&pretty=false", "", "not built"),
-        ("GET /t/_search?batched_reduce_size=2", "", "not built"),
-        ("GET /_search?batched_reduce_size=2", "", "not built"),
-        ("GET /t%FF/_search?q=a&scroll=1m", "", "not built"),
-        ("GET /_search?scroll=1m", "", "?scroll"),
-        ("GET /t%FF/_search?q=a", "{\"from\":1}", "not built"),
-        ("GET /t%FF/_search?q=a", "[", "?index"),
-        ("GET /t/_search?q=a&size=3", "[", "?q"),
-        ("GET /t/_search?refresh=true", "", "?refresh"),
-        ("GET /T/_search", "[", "bad body"),
-        ("GET /T/_search", "{\"x\":1}", "bad body"),
-        ("GET /T/_search", "{\"size\":10001}", "index"),
-        ("GET /T/_search", "", "index"),
-        ("GET /t/_search", "{\"size\":10001}", "window"),
-        (
-            "GET /t/_search",
-            "{\"pit\":{\"id\":\"UAAAAAAAAAAB\"}}",
-            "pit",
-        ),
-        ("GET /_search", "", "pit"),
-        ("GET /_search", "[]", "bad body"),
-    ] {
-        let found = searched(alloc, line, body)?;
-        assert_eq!(rt; found.as_str(), wanted, "{line} {body}");
+    for line in REQUESTS.lines() {
+        if !line.is_empty() {
+            let (line, want) = line.split_once(" -> ").ok_or("what it asks for")?;
+            let request = read(alloc, line)?;
+            let found = asked(alloc, &request)?;
+            assert_eq!(rt; found.as_str(), want, "{line}");
+        }
     }
     Ok(())
 }

@@ -12,7 +12,7 @@ use Rattle.list_machine.specs.declared.event.Reply.TheVariants.{Missing, NoIndex
 use Rattle.list_machine.specs.declared.event.Target.TheVariants.{Pit}
 use Rattle.list_machine.specs.declared.search.SearchRequest.{SearchRequest}
 use Rattle.list_machine.specs.Rows.{Shard, last_number}
-use Rattle.list_machine.specs.Run.{CreatesSome, History, PutsObject, reply_of, run, state_of}
+use Rattle.list_machine.specs.Run.{IsBounded, History, PutsObject, reply_of, run, state_of}
 use Rattle.list_machine.specs.State.{Context, Index, State, index_of, is_live, live_contexts, start, view_of}
 use Rattle.list_machine.specs.Step.{at_moment, happen, open_pit, search_pit, search_reply, step}
 use Rattle.list_machine.specs.Stores.{IsCounted, IsCountedIndex}
@@ -197,13 +197,13 @@ run-push state (first ∷ history) entry = run-push (step state first).0 history
 -- what is known of the states of all histories
 pub record Known : Type 0 where
   pub limits_are : (limits : Limits) (history : History) → (state_of limits history).limits ≡ limits
-  pub counted : (limits : Limits) (history : History) → All (λ (entry : Entry). CreatesSome entry.event) history → IsCounted (length history) (state_of limits history)
+  pub counted : (limits : Limits) (history : History) → All (λ (entry : Entry). IsBounded entry.event) history → IsCounted (length history) (state_of limits history)
 
 -- a state behind a short history is small, at any moment
-known_small : Known → (limits : Limits) (history : History) (moment : ℕ) → All (λ (entry : Entry). CreatesSome entry.event) history → length history < 9007199254740992
+known_small : Known → (limits : Limits) (history : History) (moment : ℕ) → All (λ (entry : Entry). IsBounded entry.event) history → length history < 9007199254740992
     → IsSmall (at_moment (state_of limits history) moment)
-known_small known limits history moment creates short =
-    let counted : IsCounted (length history) (state_of limits history) = known.counted limits history creates in
+known_small known limits history moment bounded short =
+    let counted : IsCounted (length history) (state_of limits history) = known.counted limits history bounded in
     record {
       numbers = All-weaker (IsCountedIndex (length history)) (λ (index : Index). AreNumbered index.shards)
           (λ index numbered. All-weaker (λ (shard : Shard). last_number shard ≤ length history) (λ (shard : Shard). last_number shard < 9007199254740992) (λ shard l. omega arith) index.shards numbered.numbers)
@@ -233,17 +233,17 @@ pub record IsMoved (old new : Core) (moment : ℕ) : Type 0 where
 
 -- the step of an entry makes a core stand for the history and the entry
 pub turn_stands : Known → (old stepped new : Core) (event : Event) (moment later : ℕ) (reply : Reply) → later ≡ max old.moment moment
-    → Steps old stepped later event reply → IsMoved stepped new later → PutsObject event → CreatesSome event
+    → Steps old stepped later event reply → IsMoved stepped new later → PutsObject event → IsBounded event
     → (limits : Limits) (history : History) (who : ℕ) → Stands limits old history → length history < 9007199254740992
     → Stands limits new (history ++ record { who = who; moment = moment; event = event } ∷ [])
     × (reply ≡ reply_of limits history (record { who = who; moment = moment; event = event }))
-turn_stands known old stepped new event moment later reply is steps moved object creates limits history who stands short =
+turn_stands known old stepped new event moment later reply is steps moved object bounded limits history who stands short =
     let entry : Entry = record { who = who; moment = moment; event = event } in
     let next : State = (step (state_of limits history) entry).0 in
     let behind : state_of limits (history ++ entry ∷ []) ≡ next = run-push (start limits) history entry in
     let before : Holds old later (at_moment (state_of limits history) moment) =
     subst (λ (at : ℕ). Holds old at (at_moment (state_of limits history) moment)) (sym is) (stands_holds known limits old history moment stands) in
-    let done = steps (at_moment (state_of limits history) moment) before (known_small known limits history moment stands.creates short) in
+    let done = steps (at_moment (state_of limits history) moment) before (known_small known limits history moment stands.bounded short) in
     let holds : Holds stepped later next = done.0 in (
       record {
         limits_are = moved.limits_are ∙ holds.limits_are ∙ ap (λ (it : State). it.limits) (sym behind) ∙ known.limits_are limits (history ++ entry ∷ []);
@@ -254,7 +254,7 @@ turn_stands known old stepped new event moment later reply is steps moved object
             let from : later ≤ at = omega (arith, holds.moment_is, ap (λ (it : State). it.moment) behind) in
             ap (filter (is_live at)) moved.book ∙ holds.contexts at from ∙ ap (λ (it : State). filter (is_live at) it.contexts) (sym behind);
         objects = All-push (λ (it : Entry). PutsObject it.event) history entry stands.objects object;
-        creates = All-push (λ (it : Entry). CreatesSome it.event) history entry stands.creates creates;
+        bounded = All-push (λ (it : Entry). IsBounded it.event) history entry stands.bounded bounded;
       },
       done.1,
     )
@@ -268,5 +268,5 @@ same_stands old new same limits history stands = record {
   indexes = same.indexes ∙ stands.indexes;
   contexts = λ moment l. ap (filter (is_live moment)) same.book ∙ stands.contexts moment l;
   objects = stands.objects;
-  creates = stands.creates;
+  bounded = stands.bounded;
 }

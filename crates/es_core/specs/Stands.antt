@@ -5,7 +5,7 @@ use Rattle.list_machine.specs.declared.event.Event.{Event}
 use Rattle.list_machine.specs.declared.event.Limits.{Limits}
 use Rattle.list_machine.specs.declared.event.Reply.{Reply}
 use Rattle.list_machine.specs.State.{is_live}
-use Rattle.list_machine.specs.Run.{CreatesSome, History, PutsObject, reply_of, state_of}
+use Rattle.list_machine.specs.Run.{IsBounded, History, PutsObject, reply_of, state_of}
 use Rattle.es_core.specs.declared.node.Core.{Core}
 use Rattle.es_core.specs.declared.turned.Turned.{Turned}
 use Rattle.es_core.specs.declared.turned.Turned.TheVariants.{Now}
@@ -21,7 +21,7 @@ pub record Stands (limits : Limits) (core : Core) (history : History) : Type 0 w
   pub contexts : (moment : ℕ) → (state_of limits history).moment ≤ moment
       → filter (is_live moment) core.book ≡ filter (is_live moment) (state_of limits history).contexts
   pub objects : All (λ (entry : Entry). PutsObject entry.event) history
-  pub creates : All (λ (entry : Entry). CreatesSome entry.event) history
+  pub bounded : All (λ (entry : Entry). IsBounded entry.event) history
 
 -- the answer of a turn is this reply
 abbrev pub Replies : Reply → Turned → Type 0

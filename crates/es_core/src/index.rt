@@ -1,4 +1,5 @@
 ghost use Rattle.std.specs.Prelude.{◌≡◌, ◌≤◌, length, map, replicate, All, IfOk, IfSome, OnOk, OnErr};
+ghost use Rattle.list_machine.specs.Run.{IsWithinLimits};
 ghost use Rattle.list_machine.specs.State.{most_shards, view_of};
 ghost use Rattle.list_machine.specs.Step.{search_reply, shard_limit};
 ghost use Rattle.list_machine.specs.Stores.{bounds_of_each};
@@ -94,6 +95,7 @@ impl Index {
 
     /// What a search is answered. It looks for the bounds of the rows where none did since the last publish.
     pub fn search(&mut self, alloc: Global, request: &SearchRequest) -> Result<Reply, NoMemory>
+        requires { IsWithinLimits request.now }
         ensures like { IsLike self.old self.new }
         ensures same { self.new.shards.items ≡ self.old.shards.items }
         ensures reply { IfOk result (λ reply. reply ≡ search_reply (view_of (index_seen self.old)) request.now) }

@@ -1,5 +1,6 @@
 ghost use Rattle.std.specs.Prelude.{◌≡◌, IfOk};
 ghost use Rattle.list_machine.specs.declared.event.Event.TheVariants.{Search, Seal};
+ghost use Rattle.list_machine.specs.Run.{IsWithinLimits};
 ghost use Rattle.list_machine.specs.State.{view_of};
 ghost use Rattle.list_machine.specs.Step.{happen};
 ghost use Rattle.list_machine.specs.Stores.{IsSmall, context_seen, view_seen};
@@ -57,7 +58,8 @@ pub fn search_index(
     name: &IndexName,
     request: &SearchRequest,
 ) -> Result<Reply, NoMemory>
-    requires { Placed places.now indexes.old.items }
+    requires placed { Placed places.now indexes.old.items }
+    requires within { IsWithinLimits request.now }
     ensures placed { Placed places.now indexes.new.items }
     ensures ok { IfOk result (Moves (λ state. happen state (Search (Target.Index name.now) request.now)) indexes.old.items indexes.new.items) }
     ensures same { indexes_seen indexes.new.items ≡ indexes_seen indexes.old.items }
@@ -76,6 +78,7 @@ pub fn search_pit(
     number: u64,
     request: &SearchRequest,
 ) -> Result<Reply, NoMemory>
+    requires { IsWithinLimits request.now }
     ensures { IfOk result (λ reply. reply ≡ found request.now (live_context number moment book.now)) }
 {
     let Some(context) = book.find(number, moment) else {

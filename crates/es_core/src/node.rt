@@ -30,7 +30,7 @@ pub struct Core {
 
 impl Core {
     ghost use Rattle.list_machine.specs.declared.event.Event.TheVariants.{OpenPit};
-    ghost use Rattle.list_machine.specs.Run.{CreatesSome, PutsObject};
+    ghost use Rattle.list_machine.specs.Run.{IsBounded, PutsObject};
     ghost use Rattle.es_core.specs.Stands.{Stands, StandsOn, Turns};
     ghost use Rattle.es_core.specs.Steps.{IsSame, Steps};
 
@@ -61,7 +61,7 @@ impl Core {
         _brought: Brought,
     ) -> Result<Turned, NoMemory>
         requires object { PutsObject event.now }
-        requires creates { CreatesSome event.now }
+        requires bounded { IsBounded event.now }
         ensures turns { IfOk result (Turns self.old self.new event.now moment) }
         ensures err { OnErr result (StandsOn self.old self.new) }
     {
@@ -73,7 +73,7 @@ impl Core {
     }
 
     fn happen(&mut self, event: &Event, moment: Moment) -> Result<Reply, NoMemory>
-        requires { CreatesSome event.now }
+        requires { IsBounded event.now }
         ensures steps { IfOk result (Steps self.old self.new moment event.now) }
         ensures err { OnErr result (IsSame self.old self.new) }
     {

@@ -10,7 +10,7 @@ use Rattle.list_machine.specs.declared.event.Change.TheVariants.{Put, Remove}
 use Rattle.list_machine.specs.declared.event.Limits.{Limits}
 use Rattle.list_machine.specs.declared.event.Reply.{Reply}
 use Rattle.list_machine.specs.declared.event.Reply.TheVariants.{Spent}
-use Rattle.list_machine.specs.Run.{History, reply_of, CreatesSome, PutsObject}
+use Rattle.list_machine.specs.Run.{History, reply_of, IsBounded, PutsObject}
 use Rattle.list_machine.specs.Serving.{Asked, IsAskable, IsKept, MayHaveAsked, asked}
 use Rattle.es_core.specs.declared.node.Core.{Core}
 use Rattle.es_core.specs.Stands.{Stands, StandsOn}
@@ -28,15 +28,15 @@ askable_object limits history (OpenPit index keep) h = tt
 askable_object limits history (Search target request) h = tt
 askable_object limits history Quiet h = absurd h
 
--- and makes indexes with a shard alone
-pub askable_creates : (limits : Limits) (history : History) (event : Event) → IsAskable limits history event → CreatesSome event
-askable_creates limits history (Create index shards mapping) h = h
-askable_creates limits history (Write index id change) h = tt
-askable_creates limits history (Seal index) h = tt
-askable_creates limits history (Publish index shard upto) h = tt
-askable_creates limits history (OpenPit index keep) h = tt
-askable_creates limits history (Search target request) h = tt
-askable_creates limits history Quiet h = absurd h
+-- and is within bounds
+pub askable_bounded : (limits : Limits) (history : History) (event : Event) → IsAskable limits history event → IsBounded event
+askable_bounded limits history (Create index shards mapping) h = h
+askable_bounded limits history (Write index id change) h = tt
+askable_bounded limits history (Seal index) h = tt
+askable_bounded limits history (Publish index shard upto) h = tt
+askable_bounded limits history (OpenPit index keep) h = tt
+askable_bounded limits history (Search target request) h = h
+askable_bounded limits history Quiet h = absurd h
 
 -- the history is full
 pub spent : (limits : Limits) (moment : ℕ) (event : Event) (history : History) → IsKept limits history → limits.entries ≤ length history → Asked limits 0 4 history history (asked 0 moment event) Spent

@@ -12,6 +12,8 @@ mod run;
 mod sessions;
 mod solo;
 #[cfg(test)]
+mod sorted;
+#[cfg(test)]
 mod tests;
 
 use crate::adapter::{Input, Output};

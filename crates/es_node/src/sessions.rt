@@ -7,9 +7,9 @@ use std::test::Fail;
 
 // The bytes of a session's requests, and those of their responses.
 #[derive(Drop)]
-struct Session {
-    requests: Vec<u8>,
-    responses: Vec<u8>,
+pub(crate) struct Session {
+    pub requests: Vec<u8>,
+    pub responses: Vec<u8>,
 }
 
 fn phrase(status: &str) -> &'static str {
@@ -25,7 +25,12 @@ fn phrase(status: &str) -> &'static str {
 }
 
 // A method, a target and perhaps a body, which goes on in `more`.
-fn push_request(alloc: Global, out: &mut Vec<u8>, line: &str, more: &str) -> Result<(), Fail> {
+pub(crate) fn push_request(
+    alloc: Global,
+    out: &mut Vec<u8>,
+    line: &str,
+    more: &str,
+) -> Result<(), Fail> {
     let (method, rest) = line.split_once(' ').ok_or("a method")?;
     let (target, body) = rest.split_once(' ').unwrap_or((rest, ""));
     let length = body.len().saturating_add(more.len());
@@ -47,7 +52,7 @@ fn body_of(alloc: Global, status: &str, said: &str) -> Result<String, Fail> {
 }
 
 // A status and a body.
-fn push_response(alloc: Global, out: &mut Vec<u8>, line: &str) -> Result<(), Fail> {
+pub(crate) fn push_response(alloc: Global, out: &mut Vec<u8>, line: &str) -> Result<(), Fail> {
     let (status, said) = line.split_once(' ').ok_or("a status")?;
     let body = body_of(alloc, status, said)?;
     let length = body.len();
@@ -68,7 +73,7 @@ fn is_response(line: &str) -> bool {
 }
 
 // A line that begins with two spaces is one of the request's body, with its line feed.
-fn read_session(alloc: Global, text: &str) -> Result<Session, Fail> {
+pub(crate) fn read_session(alloc: Global, text: &str) -> Result<Session, Fail> {
     let mut session = Session {
         requests: Vec::new(alloc),
         responses: Vec::new(alloc),
@@ -96,15 +101,26 @@ fn read_session(alloc: Global, text: &str) -> Result<Session, Fail> {
     Ok(session)
 }
 
-fn plays(rt: &impl Abort, alloc: Global, text: &str) -> Result<(), Fail> {
+// Replays the requests in pieces of that many bytes.
+pub(crate) fn replays(
+    rt: &impl Abort,
+    alloc: Global,
+    session: &Session,
+    piece: u32,
+) -> Result<(), Fail> {
+    let (status, written) = replayed(alloc, &session.requests, piece, &NO_FAULTS)?;
+    assert!(rt; status == Status::Done);
+    assert!(rt;
+        written.as_slice() == session.responses.as_slice(),
+        "in pieces of {piece}"
+    );
+    Ok(())
+}
+
+pub(crate) fn plays(rt: &impl Abort, alloc: Global, text: &str) -> Result<(), Fail> {
     let session = read_session(alloc, text)?;
     for piece in [1, 7, 4096] {
-        let (status, written) = replayed(alloc, &session.requests, piece, &NO_FAULTS)?;
-        assert!(rt; status == Status::Done);
-        assert!(rt;
-            written.as_slice() == session.responses.as_slice(),
-            "in pieces of {piece}"
-        );
+        replays(rt, alloc, &session, piece)?;
     }
     Ok(())
 }
@@ -394,6 +410,8 @@ POST /r/_search {"query":{"term":{"n":12}}}
 200 {"took":0,"timed_out":false,"_shards":{"total":2,"successful":2,"skipped":2,"failed":0},"hits":{"total":{"value":0,"relation":"eq"},"max_score":null,"hits":[]}}
 POST /r/_search {"query":{"term":{"n":"x"}}}
 400 query_shard_exception: a query value of another kind
+POST /r/_search {"sort":["zz"]}
+400 query_shard_exception: no mapping for a sort field
 POST /r/_search {"query":{"term":{"zz":1}}}
 200 {"took":0,"timed_out":false,"_shards":{"total":2,"successful":2,"skipped":2,"failed":0},"hits":{"total":{"value":0,"relation":"eq"},"max_score":null,"hits":[]}}
 GET /r/_search {"query":{"bool":{"must_not":{"term":{"n":{"value":11}}},"filter":[{"range":{"n":{}}}]}},"track_total_hits":true}
@@ -468,10 +486,12 @@ POST /%FF/_search?x=1 {"x":1}
 400 illegal_argument_exception: bad parameter [index]
 POST /_search?scroll=1m
 400 illegal_argument_exception: bad parameter [scroll]
-POST /docs/_search?x=1 {"sort":["n"],"x":1}
+POST /docs/_search?x=1 {"slice":1,"x":1}
 501 not_built_exception: not built
 POST /docs/_search {"search_after":[1]}
-501 not_built_exception: not built
+400 illegal_argument_exception: search_after does not fit the sort
+POST /docs/_search {"sort":["n"]}
+400 query_shard_exception: no mapping for a sort field
 POST /docs/_search?scroll=1m
 501 not_built_exception: not built
 POST /docs/_search?batched_reduce_size=2

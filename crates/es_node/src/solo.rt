@@ -1,5 +1,5 @@
 ghost use Rattle.std.specs.Prelude.{◌≡◌, ◌+◌, ◌<◌, ◌≤◌, ◌^◌, ◌++◌, [], ◌∷◌, IfOk, OnErr};
-ghost use Rattle.list_machine.specs.Run.{CreatesSome, PutsObject};
+ghost use Rattle.list_machine.specs.Run.{IsBounded, PutsObject};
 ghost use Rattle.list_machine.specs.Serving.{IsKept};
 ghost use Rattle.es_core.specs.Stands.{Replies, StandsOn};
 ghost use Rattle.es_node.specs.Solo.{Advances, AreOwn};
@@ -74,7 +74,7 @@ fn reply_of(turned: Turned) -> Reply
 // Takes the step of an entry and writes it down. Nothing changes where memory is wanted.
 fn advance(core: &mut Core, journal: &mut Vec<Entry>, entry: Entry) -> Result<Reply, NoMemory>
     requires object { PutsObject entry.event }
-    requires creates { CreatesSome entry.event }
+    requires bounded { IsBounded entry.event }
     ensures advances { IfOk result (Advances core.old core.new entry) }
     ensures journal { IfOk result (λ _. journal.new.items ≡ journal.old.items ++ entry ∷ []) }
     ensures core_kept { OnErr result (StandsOn core.old core.new) }

@@ -11,6 +11,7 @@ use Rattle.es_types.specs.declared.mapping.Field.{Field}
 use Rattle.es_types.specs.declared.row.Row.{Row}
 use Rattle.es_types.specs.declared.row.Value.{Value}
 use Rattle.es_types.specs.declared.row.Value.TheVariants.{Key, Long, Missing}
+use Rattle.es_types.specs.Values.{values_in}
 use Rattle.es_query.specs.declared.query.Edge.{Edge}
 use Rattle.es_query.specs.declared.query.Need.{Need}
 use Rattle.es_query.specs.declared.query.Side.{Side}
@@ -21,7 +22,7 @@ use Rattle.es_query.specs.Clauses.{holds, it, needed}
 use Rattle.es_query.specs.Excluded.{bool_excluded, bound_in, excluded, furthest, is_beyond, range_excluded, rule_each, ruled_out, term_excluded}
 use Rattle.es_query.specs.Limits.{bounds_of}
 use Rattle.es_query.specs.Matches.{match_each, matches}
-use Rattle.es_query.specs.Values.{compared, is_equal, is_so, meets, on_side, values_in}
+use Rattle.es_query.specs.Values.{compared, is_equal, is_so, meets, on_side}
 use Rattle.es_query.proofs.Orders.{beyond_fails, outside_differs}
 use Rattle.es_query.proofs.Within.{AreWithin, IsWithin, by_bytes, row_within}
 

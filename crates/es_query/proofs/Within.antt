@@ -17,7 +17,7 @@ use Rattle.es_types.specs.declared.row.Value.{Value}
 use Rattle.es_types.specs.declared.row.Value.TheVariants.{Key, Long, Missing}
 use Rattle.es_query.specs.Excluded.{bound_in}
 use Rattle.es_query.specs.Limits.{bound_of, bounds_from, bounds_of, first_of, values_at, widened}
-use Rattle.es_query.specs.Values.{values_in}
+use Rattle.es_types.specs.Values.{values_in}
 use Rattle.es_query.proofs.Orders.{UpTo, greater_left, greater_right, lesser_left, lesser_right, up_to_itself, up_to_trans}
 
 abbrev pub by_bytes : List ℕ → List ℕ → Ordering

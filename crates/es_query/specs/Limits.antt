@@ -11,7 +11,7 @@ use Rattle.es_types.specs.declared.mapping.FieldKind.{FieldKind}
 use Rattle.es_types.specs.declared.row.Row.{Row}
 use Rattle.es_types.specs.declared.row.Value.{Value}
 use Rattle.es_types.specs.declared.row.Value.TheVariants.{Key, Long, Missing}
-use Rattle.es_query.specs.Values.{of_kind}
+use Rattle.es_types.specs.Values.{of_kind}
 
 -- the lesser and the greater one of two texts, by their bytes
 abbrev pub lesser : List ℕ → List ℕ → List ℕ

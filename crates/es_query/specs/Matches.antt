@@ -3,8 +3,9 @@ use Rattle.std.specs.Prelude.{Bool, true, false, List, [], ◌∷◌}
 use Rattle.std.specs.List.{list_all, list_any}
 use Rattle.es_types.specs.declared.mapping.Field.{Field}
 use Rattle.es_types.specs.declared.row.Value.{Value}
+use Rattle.es_types.specs.Values.{values_in}
 use Rattle.es_query.specs.declared.query.Query.{Query, All, Nothing, Term, Range, Bool', Row_of-Query, end_of-Query, more_of-Query}
-use Rattle.es_query.specs.Values.{is_equal, meets, values_in}
+use Rattle.es_query.specs.Values.{is_equal, meets}
 use Rattle.es_query.specs.Clauses.{holds}
 
 -- Whether a row with these values matches. Only `values_in` says what values a row has.

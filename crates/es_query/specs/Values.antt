@@ -1,32 +1,13 @@
--- The values that a row has of a field, and how two values compare.
-use Rattle.std.specs.Prelude.{Bool, false, ℕ, bytes_eq, if◌then◌else◌, List, [], ◌∷◌, Option, Some, None}
+-- How two values compare.
+use Rattle.std.specs.Prelude.{Bool, false, Option, Some, None}
 use Rattle.std.specs.Cmp.Lexicographic.{slice_cmp}
 use Rattle.std.specs.declared.cmp.Ordering.{Ordering}
 use Rattle.std.specs.Ordering.{int_cmp, nat_cmp, is_eq, is_ge, is_gt, is_le, is_lt}
-use Rattle.es_types.specs.declared.mapping.Field.{Field}
-use Rattle.es_types.specs.declared.mapping.FieldKind.{FieldKind}
-use Rattle.es_types.specs.declared.mapping.FieldKind.TheVariants as kind
 use Rattle.es_types.specs.declared.row.Value.{Value}
 use Rattle.es_types.specs.declared.row.Value.TheVariants.{Key, Long, Missing}
 use Rattle.es_query.specs.declared.query.Side.{Side}
 use Rattle.es_query.specs.declared.query.Side.TheVariants.{Above, AtLeast, Below, AtMost}
 use Rattle.es_query.specs.declared.query.Edge.{Edge}
-
--- a value of a field of that kind, if it is one
-abbrev pub of_kind : FieldKind → Value → List Value
-of_kind kind.Key (Key text) = Key text ∷ []
-of_kind kind.Key (Long number) = []
-of_kind kind.Key Missing = []
-of_kind kind.Long (Key text) = []
-of_kind kind.Long (Long number) = Long number ∷ []
-of_kind kind.Long Missing = []
-
--- the values that a row of that mapping has of a field: none where the field isn't mapped
-abbrev pub values_in : List Field → List Value → List ℕ → List Value
-values_in [] values name = []
-values_in (field ∷ fields) [] name = []
-values_in (field ∷ fields) (value ∷ values) name =
-    if bytes_eq field.name name then of_kind field.kind value else values_in fields values name
 
 -- how two values of one kind compare: texts by their bytes
 abbrev pub compared : Value → Value → Option Ordering

@@ -2,9 +2,8 @@ ghost use Rattle.std.specs.Prelude.{◌≡◌, ◌&&◌, MatchResult, IsTrue, Is
 ghost use Rattle.std.specs.List.{list_all};
 ghost use Rattle.es_query.specs.Fits.{fits, is_of};
 
-use crate::values::{is_of, kind_in};
 use crate::{Bool, Edge, Query};
-use es_types::{FieldKind, Mapping};
+use es_types::{FieldKind, Mapping, Value};
 
 /// A query that has a value of another kind than its field.
 #[derive(Drop)]
@@ -30,11 +29,21 @@ fn fits(query: &Query, mapping: &Mapping) -> bool
     match query {
         Query::All => true,
         Query::Nothing => true,
-        Query::Term { field, value } => is_of(kind_in(mapping, field.as_str()), value),
+        Query::Term { field, value } => is_of(mapping.kind_of(field.as_str()), value),
         Query::Range { field, edges } => {
-            are_of(kind_in(mapping, field.as_str()), edges.as_slice())
+            are_of(mapping.kind_of(field.as_str()), edges.as_slice())
         }
         Query::Bool(clauses) => do_fit(clauses, mapping),
+    }
+}
+
+// Whether a value is of that kind. A field that isn't mapped takes each.
+fn is_of(kind: Option<FieldKind>, value: &Value) -> bool
+    ensures { result ≡ is_of kind value.now }
+{
+    match kind {
+        None => true,
+        Some(kind) => value.is_of(kind),
     }
 }
 

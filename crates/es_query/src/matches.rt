@@ -4,7 +4,7 @@ ghost use Rattle.es_query.specs.Clauses.{holds, needed};
 ghost use Rattle.es_query.specs.Matches.{matches};
 ghost use Rattle.es_query.specs.Values.{meets};
 
-use crate::values::{is_equal, meets, value_in};
+use crate::values::{is_equal, meets};
 use crate::{Bool, Edge, Need, Query};
 use es_types::{Mapping, Row, Value};
 
@@ -25,11 +25,11 @@ fn is_match(query: &Query, mapping: &Mapping, values: &[Value]) -> bool
     match query {
         Query::All => true,
         Query::Nothing => false,
-        Query::Term { field, value } => match value_in(mapping, values, field.as_str()) {
+        Query::Term { field, value } => match mapping.value_of(values, field.as_str()) {
             Some(found) => is_equal(value, found),
             None => false,
         },
-        Query::Range { field, edges } => match value_in(mapping, values, field.as_str()) {
+        Query::Range { field, edges } => match mapping.value_of(values, field.as_str()) {
             Some(found) => meets_all(found, edges.as_slice()),
             None => false,
         },

@@ -1,14 +1,9 @@
 -- What a body asks for keeps within its limits.
-use Rattle.std.proofs.Common.{◌≡◌, refl, ap, subst, ◌∙◌, ◌&&◌, ◌≤◌, ℕ, Bool, true, false, List, Option, Some, None, Result, Ok, Err}
-use Rattle.es_types.specs.Fail.{Answers as FailAnswers}
-use Rattle.es_types.specs.declared.fail.Fail.{Fail}
-use Rattle.es_types.specs.declared.fail.Fail.TheVariants as fail
+use Rattle.std.proofs.Common.{◌≡◌, refl, subst, ◌&&◌, ◌≤◌, ℕ, Bool, true, false, List, Option, Some, None, Result, Ok, Err}
 use Rattle.std.specs.Prelude.{nat_le, if◌then◌else◌, codes, ◌∷◌, []}
 use Rattle.std.proofs.lemmas.Bool.{leb-true}
 use Rattle.serde_json.specs.Data.{Data, Members}
 use Rattle.serde_json.specs.Find.{get}
-use Rattle.es_types.specs.Name.{is_index_name}
-use Rattle.es_types.specs.declared.limit.LimitName.{LimitName}
 use Rattle.es_types.specs.declared.limit.LimitName.TheVariants as limit
 use Rattle.es_types.specs.declared.mapping.Field.{Field}
 use Rattle.doc_json.specs.declared.bulk.BulkItem.{BulkItem}
@@ -17,11 +12,8 @@ use Rattle.doc_json.specs.declared.fault.BodyFault.TheVariants as body
 use Rattle.doc_json.specs.declared.index.IndexSpec.{IndexSpec}
 use Rattle.doc_json.specs.Indexes.{filled, index_in, index_of, limited, mapped, mapping_of, properties_of, shards_of}
 use Rattle.doc_json.specs.Json.{data_of, form_then, is_form, json_then}
-use Rattle.reply_json.specs.declared.fault.RestFault.{RestFault}
-use Rattle.reply_json.specs.declared.fault.RestFault.TheVariants as fault
-use Rattle.es_rest.specs.declared.ask.Ask.{Ask}
 use Rattle.es_rest.specs.Items.{body_fault}
-use Rattle.es_rest.specs.Route.{checked, create_of, named_index}
+use Rattle.es_rest.specs.Route.{checked}
 
 -- 1 to 1,024 shards
 abbrev HasShards : IndexSpec → Type 0
@@ -78,27 +70,7 @@ pub index_shards : (bytes : List ℕ) (spec : IndexSpec) → index_of bytes ≡ 
 unfolding index_of
 index_shards bytes spec is = data_shards (data_of (filled bytes)) spec is
 
--- the refusal for a limit
-abbrev pub mistake : LimitName → Result Ask RestFault
-mistake broken = Err (fault.Limit broken)
-
--- a body that breaks a limit, under a name that is one
-limit_by : (b : Bool) (index name : List ℕ) (broken : LimitName) → (if b then Ok index else Err (fault.Limit limit.Index)) ≡ Ok name
-    → (if b then Err (fault.Limit broken) else Err (fault.Limit limit.Index)) ≡ mistake broken
-limit_by true index name broken is = refl
-limit_by false index name broken is = absurd (let e : Err (fault.Limit limit.Index) ≡ Ok name = is in cc)
-
--- the limit is told where the name is one
-pub limit_told : (index name : List ℕ) (r : Result IndexSpec BodyFault) (broken : LimitName) → named_index index index ≡ Ok name → r ≡ Err (body.Limit broken) → create_of index r ≡ mistake broken
-limit_told index name r broken is told = ap (create_of index) told ∙ limit_by (is_index_name index) index name broken is
-
 -- items that were checked are there
 pub has_items : (r : Result (List BulkItem) BodyFault) → checked r ≡ Ok tt → (items : List BulkItem) × (r ≡ Ok items)
 has_items (Ok items) is = (items, refl)
 has_items (Err f) is = absurd (let e : Err (body_fault f) ≡ Ok tt = is in cc)
-
--- a limit that is broken is the answer
-pub fault_limit : (f : Fail BodyFault) (g : BodyFault) (broken : LimitName) (r : Result IndexSpec BodyFault) → f ≡ fail.Is g → g ≡ body.Limit broken → FailAnswers (Err f) r → r ≡ Err (body.Limit broken)
-fault_limit f g broken r is limit h =
-    let e : f ≡ fail.Is (body.Limit broken) = is ∙ ap fail.Is limit in
-    subst (λ (x : Fail BodyFault). FailAnswers (Err x) r) e h

@@ -44,6 +44,8 @@ refused_by name other reply.Exists = refl
 refused_by name other reply.Missing = refl
 refused_by name other (reply.BadDoc doc) = refl
 refused_by name other reply.BadQuery = refl
+refused_by name other reply.BadSort = refl
+refused_by name other reply.BadAfter = refl
 refused_by name other (reply.TooMany limit) = refl
 refused_by name other reply.ShardFull = refl
 

@@ -3,6 +3,7 @@ use Rattle.std.specs.Prelude.{◌≡◌, ℕ, ◌&&◌, ◌||◌, ◌==◌, Bool
 use Rattle.std.specs.List.{list_all}
 use Rattle.es_types.specs.declared.doc.Doc.{Doc}
 use Rattle.es_types.specs.Name.{is_index_name}
+use Rattle.es_types.specs.declared.limit.LimitName.{LimitName}
 use Rattle.es_types.specs.declared.limit.LimitName.TheVariants as limit
 use Rattle.http_wire.specs.declared.request.Request.{Request}
 use Rattle.doc_json.specs.declared.fault.BodyFault.{BodyFault}
@@ -13,8 +14,7 @@ use Rattle.doc_json.specs.Documents.{doc_of}
 use Rattle.doc_json.specs.Indexes.{index_of}
 use Rattle.doc_json.specs.Json.{is_white}
 use Rattle.list_machine.specs.Objects.{IsObject}
-use Rattle.list_machine.specs.Run.{CreatesSome}
-use Rattle.list_machine.specs.State.{docs}
+use Rattle.list_machine.specs.Run.{IsBounded, IsWithinLimits}
 use Rattle.list_machine.specs.declared.event.Event.TheVariants as event
 use Rattle.list_machine.specs.declared.event.Target.TheVariants as target
 use Rattle.list_machine.specs.declared.search.SearchRequest.{SearchRequest}
@@ -73,10 +73,14 @@ some_body request = if is_empty request.body then Err fault.BadBody else Ok true
 abbrev pub named_index : {A : Type 0} → List ℕ → A → Result A RestFault
 named_index index asked = if is_index_name index then Ok asked else Err (fault.Limit limit.Index)
 
+-- a limit that a body breaks comes behind a name that is none
+abbrev pub limit_told : List ℕ → LimitName → Result Ask RestFault
+limit_told index name = if is_index_name index then Err (fault.Limit name) else Err (fault.Limit limit.Index)
+
 -- a body that is none comes before a name that is none, and that before a limit of the body
 abbrev pub create_of : List ℕ → Result IndexSpec BodyFault → Result Ask RestFault
 create_of index (Ok spec) = named_index index (ask.Create index spec)
-create_of index (Err (body.Limit name)) = if is_index_name index then Err (fault.Limit name) else Err (fault.Limit limit.Index)
+create_of index (Err (body.Limit name)) = limit_told index name
 create_of index (Err other) = Err (body_fault other)
 
 abbrev pub put_of : List ℕ → List ℕ → Bool → Result Doc BodyFault → Result Ask RestFault
@@ -122,19 +126,24 @@ refresh_asked request =
     and_then (index_in request) (λ index. and_then (refresh_in false None (params_of request.query)) (λ refresh.
     and_then (no_body request) (λ none. named_index index (ask.Refresh index))))
 
--- the one opening that is built
+-- how long a point in time is kept: the one time that is built
 abbrev pub minute : ℕ
 minute = 60000
 
 abbrev pub is_opening : Request → Bool
 is_opening request =
-    is_method (codes "POST") request && (bytes_eq (part 1 request.path) docs
-    && (bytes_eq request.query (codes "keep_alive=1m") && is_empty request.body))
+    is_method (codes "POST") request && (bytes_eq request.query (codes "keep_alive=1m") && is_empty request.body)
 
 abbrev pub opening_asked : Request → Result Ask RestFault
-opening_asked request = if is_opening request then Ok (ask.OpenPit docs minute) else Err fault.NotBuilt
+opening_asked request =
+    if is_opening request then and_then (index_in request) (λ index. named_index index (ask.OpenPit index minute)) else Err fault.NotBuilt
 
 -- ---- searches
+
+-- what a body asks for is within the limits of a search
+abbrev pub AreWithinLimits : Result SearchBody BodyFault → Type 0
+AreWithinLimits (Ok asked) = IsWithinLimits asked.request
+AreWithinLimits (Err fault) = Unit {0}
 
 -- a form of the body that isn't built goes before all other refusals
 abbrev pub check_form : Result SearchBody BodyFault → Result (Unit {0}) RestFault
@@ -147,7 +156,7 @@ no_params request = refresh_in false None (params_of request.query)
 -- a body that is none comes before a name that is none, and that before a limit of the body
 abbrev pub index_search_of : List ℕ → Result SearchBody BodyFault → Result Ask RestFault
 index_search_of index (Ok asked) = named_index index (ask.Search (target.Index index) asked.request)
-index_search_of index (Err (body.Limit name)) = if is_index_name index then Err (fault.Limit name) else Err (fault.Limit limit.Index)
+index_search_of index (Err (body.Limit name)) = limit_told index name
 index_search_of index (Err other) = Err (body_fault other)
 
 abbrev pub searched_pit : Option ℕ → SearchRequest → Result Ask RestFault
@@ -201,6 +210,7 @@ asked_at_index newest request place.Doc = doc_asked request
 asked_at_index newest request place.IndexBulk = built (puts_or_posts request) request (index_bulk_asked request)
 asked_at_index newest request place.Refresh = built (gets_or_posts request) request (refresh_asked request)
 asked_at_index newest request place.IndexSearch = and_then (check_search true request) (λ yes. index_search_asked newest request)
+asked_at_index newest request place.OpenPit = opening_asked request
 asked_at_index newest request other = Err fault.NotBuilt
 
 -- the index's part of the path is none of the service's own words
@@ -210,7 +220,6 @@ of_index newest request place = if is_own_word (part 1 request.path) then Err fa
 abbrev pub asked_at : ℕ → Request → Option Place → Result Ask RestFault
 asked_at newest request None = Err fault.NotBuilt
 asked_at newest request (Some place.Bulk) = built (puts_or_posts request) request (bulk_asked None request)
-asked_at newest request (Some place.OpenPit) = opening_asked request
 asked_at newest request (Some place.Search) = and_then (check_search false request) (λ yes. pit_search_asked newest request)
 asked_at newest request (Some place) = of_index newest request place
 
@@ -223,9 +232,10 @@ abbrev pub Answers : {A : Type 0} → Result A RestFault → Result A RestFault 
 Answers (Err fault.NoMemory) asked = Unit {0}
 Answers answer asked = asked ≡ answer
 
--- what is asked for may be asked: an index of 1 to 1,024 shards, a put of a JSON object, a bulk of items
+-- what is asked for may be asked: an index of 1 to 1,024 shards, a put of a JSON object, a bulk of items, a search within its limits
 abbrev pub AsksSound : Ask → Type 0
-AsksSound (ask.Create index spec) = CreatesSome (event.Create index spec.shards spec.mapping)
+AsksSound (ask.Create index spec) = IsBounded (event.Create index spec.shards spec.mapping)
+AsksSound (ask.Search target request) = IsBounded (event.Search target request)
 AsksSound (ask.Put index id doc refresh) = IsObject doc.source
 AsksSound (ask.Bulk index body refresh) = (items : List BulkItem) × (items_of index body ≡ Ok items)
 AsksSound other = Unit {0}

@@ -3,7 +3,7 @@ ghost use Rattle.doc_json.specs.Documents.{doc_of};
 ghost use Rattle.doc_json.specs.Indexes.{index_of};
 ghost use Rattle.es_rest.specs.Items.{body_fault, items_from, named};
 ghost use Rattle.es_rest.specs.Paths.{all_routes, params_of, part, place_of, refresh_in};
-ghost use Rattle.es_rest.specs.Route.{Answers, AsksSound, asked_at, asked_at_index, asked_of, bulk_asked, check_built, create_asked, create_of, doc_asked, gets_or_posts, id_in, index_bulk_asked, index_in, is_blank, is_method, is_opening, is_own_word, named_index, no_body, no_params, opening_asked, put_asked, put_of, puts_or_posts, refresh_asked, remove_asked, remove_of, some_body};
+ghost use Rattle.es_rest.specs.Route.{Answers, AsksSound, asked_at, asked_at_index, asked_of, bulk_asked, check_built, create_asked, create_of, doc_asked, gets_or_posts, id_in, index_bulk_asked, index_in, is_blank, is_method, is_opening, is_own_word, limit_told, named_index, no_body, no_params, opening_asked, put_asked, put_of, puts_or_posts, refresh_asked, remove_asked, remove_of, some_body};
 
 use crate::items::{body_fault, check_items, named};
 use crate::params::{has_param, params_of, refresh_in};
@@ -12,7 +12,7 @@ use crate::search::{check_search, index_search_asked, pit_search_asked};
 use doc_json::{BodyFault, IndexSpec, read_doc, read_index};
 use es_types::{Bytes, Copied, Doc, DocId, Fail, IndexName, KeepAlive, LimitName, Text};
 use http_wire::Request;
-use list_machine::{SearchRequest, Target, docs};
+use list_machine::{SearchRequest, Target};
 use matchit::Router;
 use reply_json::RestFault;
 use std::alloc::Global;
@@ -151,6 +151,16 @@ pub fn named_index(index: Text) -> Result<IndexName, RestFault>
     }
 }
 
+/// A limit that a body breaks is told where the index's name is one.
+pub fn limit_told(index: Text, name: LimitName) -> Result<Ask, RestFault>
+    ensures { result ≡ limit_told index name }
+{
+    match IndexName::make(index) {
+        Ok(_) => Err(RestFault::Limit(name)),
+        Err(_) => Err(RestFault::Limit(LimitName::Index)),
+    }
+}
+
 fn create_of(alloc: Global, index: Text, body: &[u8]) -> Result<Ask, RestFault>
     ensures answer { Answers result (create_of index (index_of body.now)) }
     ensures sound { IfOk result AsksSound }
@@ -160,10 +170,7 @@ fn create_of(alloc: Global, index: Text, body: &[u8]) -> Result<Ask, RestFault>
             index: named_index(index)?,
             spec,
         }),
-        Err(Fail::Is(BodyFault::Limit(name))) => {
-            named_index(index)?;
-            Err(RestFault::Limit(name))
-        }
+        Err(Fail::Is(BodyFault::Limit(name))) => limit_told(index, name),
         Err(Fail::Is(fault)) => Err(body_fault(fault)),
         Err(Fail::NoMemory) => Err(RestFault::NoMemory),
     }
@@ -270,7 +277,6 @@ fn is_opening(request: &Request) -> bool
     ensures { result ≡ is_opening request.now }
 {
     is_method("POST", request)
-        && path_part(request, 1) == b"docs".as_slice()
         && request.query.as_slice() == b"keep_alive=1m".as_slice()
         && request.body.as_slice().is_empty()
 }
@@ -282,8 +288,9 @@ fn opening_asked(alloc: Global, request: &Request) -> Result<Ask, RestFault>
     if !is_opening(request) {
         return Err(RestFault::NotBuilt);
     }
+    let index = index_in(alloc, request)?;
     Ok(Ask::OpenPit {
-        index: docs(alloc)?,
+        index: named_index(index)?,
         keep: KeepAlive::minute(),
     })
 }
@@ -337,6 +344,7 @@ fn indexed(alloc: Global, newest: u64, request: &Request, place: Place) -> Resul
             check_search(alloc, true, request)?;
             index_search_asked(alloc, newest, request)
         }
+        Place::OpenPit => opening_asked(alloc, request),
         _ => Err(RestFault::NotBuilt),
     }
 }
@@ -356,7 +364,6 @@ fn asked_at(
             check_built(alloc, puts_or_posts(request), request)?;
             bulk_asked(alloc, None, request)
         }
-        Some(Place::OpenPit) => opening_asked(alloc, request),
         Some(Place::Search) => {
             check_search(alloc, false, request)?;
             pit_search_asked(alloc, newest, request)

@@ -231,6 +231,7 @@ fn search<V: Service>(
     request: SearchRequest,
     moment: Moment,
 ) -> Result<Response, NoMemory>
+    requires { AsksSound (asks.Search target request) }
     ensures talk { MatchResult result
         (Conversation (V.limits service.old) (V.seat service.old) moment (asks.Search target request) (V.front service.old) (V.front service.new))
         (λ _. Interrupted (V.limits service.old) (V.seat service.old) moment (asks.Search target request) (V.front service.old) (V.front service.new)) }

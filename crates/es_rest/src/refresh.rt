@@ -18,6 +18,8 @@ pub fn refusal(name: Text, reply: &Reply) -> Option<RestFault>
         Reply::Exists => Some(RestFault::Exists(name)),
         Reply::BadDoc(fault) => Some(RestFault::BadDoc(*fault)),
         Reply::BadQuery => Some(RestFault::BadQuery),
+        Reply::BadSort => Some(RestFault::BadSort),
+        Reply::BadAfter => Some(RestFault::BadAfter),
         Reply::Missing => Some(RestFault::NoContext(name)),
         Reply::TooMany { limit } => Some(RestFault::TooMany(*limit)),
         Reply::ShardFull => Some(RestFault::ShardFull),
@@ -36,6 +38,8 @@ pub fn is_refused(reply: &Reply) -> bool
         | Reply::Missing
         | Reply::BadDoc(_)
         | Reply::BadQuery
+        | Reply::BadSort
+        | Reply::BadAfter
         | Reply::TooMany { limit: _ }
         | Reply::ShardFull => true,
         _ => false,

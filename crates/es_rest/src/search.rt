@@ -1,15 +1,16 @@
 ghost use Rattle.std.specs.Prelude.{◌≡◌, false, true, IfOk};
+ghost use Rattle.list_machine.specs.Run.{IsWithinLimits};
 ghost use Rattle.search_json.specs.Searches.{search_of};
 ghost use Rattle.es_rest.specs.Paths.{params_of};
-ghost use Rattle.es_rest.specs.Route.{Answers, AsksSound, check_form, check_search, has_unbuilt, index_search_asked, index_search_by, index_search_of, pit_search_asked, pit_search_by, pit_search_of};
+ghost use Rattle.es_rest.specs.Route.{Answers, AreWithinLimits, AsksSound, check_form, check_search, has_unbuilt, index_search_asked, index_search_by, index_search_of, named_index, pit_search_asked, pit_search_by, pit_search_of};
 
-use crate::ask::{Ask, gets_or_posts, index_in, named_index, no_params};
+use crate::ask::{Ask, gets_or_posts, index_in, limit_told, no_params};
 use crate::items::body_fault;
 use crate::params::{Param, has_param, params_of};
 use doc_json::BodyFault;
-use es_types::{Fail, LimitName, NoMemory, Text};
+use es_types::{Fail, IndexName, LimitName, NoMemory, Text};
 use http_wire::Request;
-use list_machine::Target;
+use list_machine::{SearchRequest, Target};
 use reply_json::RestFault;
 use search_json::{SearchBody, read_search};
 use std::alloc::Global;
@@ -44,7 +45,8 @@ fn body_of(
     newest: u64,
     request: &Request,
 ) -> Result<Result<SearchBody, BodyFault>, NoMemory>
-    ensures { IfOk result (λ asked. asked ≡ search_of has_index newest request.now.body) }
+    ensures is { IfOk result (λ asked. asked ≡ search_of has_index newest request.now.body) }
+    ensures within { IfOk result AreWithinLimits }
 {
     match read_search(alloc, request.body.as_slice(), has_index, newest) {
         Ok(asked) => Ok(Ok(asked)),
@@ -63,19 +65,29 @@ fn check_form(asked: &Result<SearchBody, BodyFault>) -> Result<(), RestFault>
     }
 }
 
+// The search of an index, where its name is one.
+fn searched_index(index: Text, request: SearchRequest) -> Result<Ask, RestFault>
+    requires { IsWithinLimits request }
+    ensures answer { result ≡ named_index index (Ask.Search (Target.Index index) request) }
+    ensures sound { IfOk result AsksSound }
+{
+    match IndexName::make(index) {
+        Ok(index) => Ok(Ask::Search {
+            target: Target::Index(index),
+            request,
+        }),
+        Err(_) => Err(RestFault::Limit(LimitName::Index)),
+    }
+}
+
 fn index_search_of(index: Text, asked: Result<SearchBody, BodyFault>) -> Result<Ask, RestFault>
+    requires { AreWithinLimits asked }
     ensures answer { Answers result (index_search_of index asked) }
     ensures sound { IfOk result AsksSound }
 {
     match asked {
-        Ok(asked) => Ok(Ask::Search {
-            target: Target::Index(named_index(index)?),
-            request: asked.request,
-        }),
-        Err(BodyFault::Limit(name)) => {
-            named_index(index)?;
-            Err(RestFault::Limit(name))
-        }
+        Ok(asked) => searched_index(index, asked.request),
+        Err(BodyFault::Limit(name)) => limit_told(index, name),
         Err(fault) => Err(body_fault(fault)),
     }
 }
@@ -85,6 +97,7 @@ fn index_search_by(
     request: &Request,
     asked: Result<SearchBody, BodyFault>,
 ) -> Result<Ask, RestFault>
+    requires { AreWithinLimits asked }
     ensures answer { Answers result (index_search_by request.now asked) }
     ensures sound { IfOk result AsksSound }
 {
@@ -104,6 +117,7 @@ pub fn index_search_asked(alloc: Global, newest: u64, request: &Request) -> Resu
 }
 
 fn pit_search_of(asked: Result<SearchBody, BodyFault>) -> Result<Ask, RestFault>
+    requires { AreWithinLimits asked }
     ensures answer { Answers result (pit_search_of asked) }
     ensures sound { IfOk result AsksSound }
 {
@@ -124,6 +138,7 @@ fn pit_search_by(
     request: &Request,
     asked: Result<SearchBody, BodyFault>,
 ) -> Result<Ask, RestFault>
+    requires { AreWithinLimits asked }
     ensures answer { Answers result (pit_search_by request.now asked) }
     ensures sound { IfOk result AsksSound }
 {

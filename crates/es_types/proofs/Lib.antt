@@ -1,3 +1,4 @@
 pub mod Names
 pub mod Members
-pub mod Values
+pub mod Fitted
+pub mod Lookups

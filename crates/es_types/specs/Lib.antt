@@ -4,3 +4,4 @@ pub mod Fail
 pub mod Fields
 pub mod Fit
 pub mod Homes
+pub mod Values

@@ -42,7 +42,8 @@ impl<T> Items<T> {
     }
 }
 
-fn copy_all<T: Copied>(alloc: Global, items: &[T]) -> Result<Vec<T>, NoMemory>
+/// Copies of all items, in their order.
+pub fn copy_all<T: Copied>(alloc: Global, items: &[T]) -> Result<Vec<T>, NoMemory>
     ensures { IfOk result (λ all. all.items ≡ items.now) }
 {
     let mut all = Vec::with_capacity(alloc, items.len())?;

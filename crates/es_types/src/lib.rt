@@ -14,6 +14,7 @@ mod name;
 mod row;
 mod text;
 mod time;
+mod values;
 
 pub use bounds::{Bound, Bounds};
 pub use copied::Copied;
@@ -21,7 +22,7 @@ pub use doc::{Doc, DocValue, Member};
 pub use fail::{Fail, NoMemory};
 pub use fit::{DocCause, DocFault, fit_doc};
 pub use home::shard_of;
-pub use items::Items;
+pub use items::{Items, copy_all};
 pub use limit::LimitName;
 pub use mapping::{Field, FieldKind, Mapping};
 pub use name::{DocId, FieldName, IndexName};

@@ -11,6 +11,10 @@ pub enum LimitName {
     Fields,
     /// A point in time beside an index, or neither of them.
     Pit,
-    /// How many hits a search asks for: at most 10,000.
+    /// Hits to leave out, beside values behind which the page begins.
+    From,
+    /// How many hits a search leaves out and asks for: at most 10,000 together.
     Window,
+    /// What a search sorts by: at most 64 keys, no score, and `_shard_doc` only in a point in time.
+    Sort,
 }

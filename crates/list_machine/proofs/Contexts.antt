@@ -5,13 +5,14 @@ use Rattle.std.proofs.lemmas.Bool.{cond-true, cond-false}
 use Rattle.std.proofs.lemmas.List.Elements.{All-head, All-tail}
 use Rattle.std.proofs.lemmas.List.Folds.{find-append}
 use Rattle.es_query.specs.Fits.{fits}
+use Rattle.es_sort.specs.Fits.{sort_fits}
 use Rattle.list_machine.specs.declared.event.Reply.{Reply}
-use Rattle.list_machine.specs.declared.event.Reply.TheVariants.{Opened, Found, TooMany, Missing, BadQuery}
+use Rattle.list_machine.specs.declared.event.Reply.TheVariants.{Opened, Found, TooMany, Missing, BadQuery, BadSort, BadAfter}
 use Rattle.list_machine.specs.declared.search.SearchRequest.{SearchRequest}
 use Rattle.list_machine.specs.declared.search.Answer.{Answer}
 use Rattle.list_machine.specs.Views.{View, answer}
 use Rattle.list_machine.specs.State.{State, Index, Context, context_of, is_live, view_of}
-use Rattle.list_machine.specs.Step.{search_pit, search_reply}
+use Rattle.list_machine.specs.Step.{goes_on, search_pit, search_reply}
 use Rattle.list_machine.proofs.Moves.{opened}
 use Rattle.list_machine.proofs.Runs.{Later}
 
@@ -46,20 +47,22 @@ found_next state keep index h =
     ∙ ap (λ o. option_or o (context_of state.next (new ∷ []))) (none_above state.contexts state.next state.next (omega arith) h)
     ∙ cond-true (state.next == state.next) (Some new) None (eq-eqb state.next state.next refl)
 
--- a view that answers is one that the query fits
-reply_cases : (view : View) (request : SearchRequest) (found : Answer) → search_reply view request ≡ Found found → found ≡ answer view request 0
-reply_cases view request found e = go (fits view.mapping request.query) e
+-- a view that answers is one that the query, the sort and the values to go on behind fit
+reply_cases : (view : View) (request : SearchRequest) (found : Answer) → search_reply view request ≡ Found found → found ≡ answer view request request.from
+reply_cases view request found e = go (fits view.mapping request.query) (sort_fits view.mapping request.sort) (goes_on view request.sort request.after) e
   where
-    go : (b : Bool) → cond {A = Reply} b (Found (answer view request 0)) BadQuery ≡ Found found → found ≡ answer view request 0
-    go true e = cc
-    go false e = absurd (cc)
+    go : (query sort after : Bool) → cond {A = Reply} query (cond {A = Reply} sort (cond {A = Reply} after (Found (answer view request request.from)) BadAfter) BadSort) BadQuery ≡ Found found → found ≡ answer view request request.from
+    go true true true e = cc
+    go true true false e = absurd (cc)
+    go true false after e = absurd (cc)
+    go false sort after e = absurd (cc)
 
 -- what a found answer is of
-pub search_cases : (state : State) (request : SearchRequest) (o : Option Context) (found : Answer) → (search_pit state request o).1 ≡ Found found → (context : Context) × (o ≡ Some context) × (found ≡ answer context.view request 0)
+pub search_cases : (state : State) (request : SearchRequest) (o : Option Context) (found : Answer) → (search_pit state request o).1 ≡ Found found → (context : Context) × (o ≡ Some context) × (found ≡ answer context.view request request.from)
 search_cases state request None found e = absurd (cc)
 search_cases state request (Some context) found e = (context, refl, go (is_live state.moment context) e)
   where
-    go : (live : Bool) → (cond {A = State × Reply} live (state, search_reply context.view request) (state, Missing)).1 ≡ Found found → found ≡ answer context.view request 0
+    go : (live : Bool) → (cond {A = State × Reply} live (state, search_reply context.view request) (state, Missing)).1 ≡ Found found → found ≡ answer context.view request request.from
     go true e = reply_cases context.view request found e
     go false e = absurd (cc)
 

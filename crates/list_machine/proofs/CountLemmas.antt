@@ -9,7 +9,7 @@ use Rattle.list_machine.specs.declared.event.Entry.{Entry}
 use Rattle.list_machine.specs.declared.event.Event.{Event}
 use Rattle.list_machine.specs.declared.event.Limits.{Limits}
 use Rattle.list_machine.specs.Rows.{Shard, last_number, publish}
-use Rattle.list_machine.specs.Run.{CreatesSome, History, run, state_of}
+use Rattle.list_machine.specs.Run.{IsBounded, History, run, state_of}
 use Rattle.list_machine.specs.State.{Context, Index, IsSoundShard, State, docs, empty_shard, most_shards, start, view_of}
 use Rattle.list_machine.specs.Step.{step}
 use Rattle.list_machine.specs.Stores.{IsCounted, IsCountedIndex, IsSmall}
@@ -75,7 +75,7 @@ moves_small n old new h (inr m) =
     (All-push (λ (context : Context). IsSmall context.view) old.contexts (record { number = old.next; view = view_of m.index; expiry = m.expiry }) h.views (view_small n m.index counted sound))
 
 -- a step counts one entry more
-pub IsCounted-step : (n : ℕ) (state : State) (entry : Entry) → CreatesSome entry.event → IsCounted n state → IsCounted (n + 1) (step state entry).0
+pub IsCounted-step : (n : ℕ) (state : State) (entry : Entry) → IsBounded entry.event → IsCounted n state → IsCounted (n + 1) (step state entry).0
 IsCounted-step n state entry creates counted =
     let m = step_moves state entry in
     let new : State = (step state entry).0 in
@@ -83,7 +83,7 @@ IsCounted-step n state entry creates counted =
       indexes = moves_indexes entry.event (IsCountedIndex n) (IsCountedIndex (n + 1))
           (λ index h. record { some = h.some; few = h.few; numbers = All-weaker (IsNumbered n) (IsNumbered (n + 1)) (λ it less. omega arith) index.shards h.numbers })
           (changed_index n entry.event)
-          (λ name shards mapping is few. made_index (n + 1) name shards mapping (subst CreatesSome is creates).0 few)
+          (λ name shards mapping is few. made_index (n + 1) name shards mapping (subst IsBounded is creates).0 few)
           state.indexes new.indexes m.indexes counted.indexes;
       next = omega (arith, counted.next, moves_next state new m.contexts);
       views = moves_small n state new counted m.contexts;
@@ -101,16 +101,16 @@ IsCounted-start limits =
     }
 
 -- a run counts as many as it has entries
-IsCounted-run : (n : ℕ) (history : History) (state : State) → All (λ (entry : Entry). CreatesSome entry.event) history → IsCounted n state → IsCounted (n + length history) (run state history)
+IsCounted-run : (n : ℕ) (history : History) (state : State) → All (λ (entry : Entry). IsBounded entry.event) history → IsCounted n state → IsCounted (n + length history) (run state history)
 IsCounted-run n [] state creates h = let same : n ≡ n + 0 = omega arith in subst (λ k. IsCounted k state) same h
 IsCounted-run n (entry ∷ history) state creates h =
-    let P : Entry → Type 0 = λ it. CreatesSome it.event in
+    let P : Entry → Type 0 = λ it. IsBounded it.event in
     let long : (n + 1) + length history ≡ n + length (entry ∷ history) = omega arith in
     subst (λ k. IsCounted k (run state (entry ∷ history))) long
     (IsCounted-run (n + 1) history (step state entry).0 (All-tail P entry history creates) (IsCounted-step n state entry (All-head P entry history creates) h))
 
 -- what a history leads to is counted
-pub state_counted : (limits : Limits) (history : History) → All (λ (entry : Entry). CreatesSome entry.event) history → IsCounted (length history) (state_of limits history)
+pub state_counted : (limits : Limits) (history : History) → All (λ (entry : Entry). IsBounded entry.event) history → IsCounted (length history) (state_of limits history)
 state_counted limits history creates =
     let same : 0 + length history ≡ length history = omega arith in
     subst (λ k. IsCounted k (state_of limits history)) same (IsCounted-run 0 history (start limits) creates (IsCounted-start limits))

@@ -1,5 +1,7 @@
 pub mod RowLemmas
-pub mod PlaceLemmas
+pub mod Matching
+pub mod Ordered
+pub mod PageLemmas
 pub mod IndexLemmas
 pub mod StoreLemmas
 pub mod ContextLemmas
@@ -12,6 +14,8 @@ pub mod Sound
 pub mod Runs
 pub mod Contexts
 pub mod PlacesInOrder
+pub mod Shown
+pub mod Beyond
 pub mod Turns
 pub mod Sealed
 pub mod SearchLemmas

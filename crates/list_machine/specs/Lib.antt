@@ -1,4 +1,5 @@
 pub mod Rows
+pub mod Sorting
 pub mod Views
 pub mod Objects
 pub mod State

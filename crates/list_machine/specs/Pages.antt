@@ -1,7 +1,10 @@
 -- Pages of a point in time that are taken in turn.
-use Rattle.std.specs.Prelude.{◌≡◌, ℕ, ◌<◌, true, ℤ, List, [], ◌∷◌, ◌++◌, length, map, flat_map, Some, None}
-use Rattle.es_types.specs.declared.row.Value.TheVariants.{Long}
+use Rattle.std.specs.Prelude.{◌≡◌, ℕ, ◌<◌, Bool, ◌||◌, List, [], ◌∷◌, ◌++◌, length, map, flat_map, Some, None, IsTrue}
+use Rattle.es_types.specs.declared.row.Value.{Value}
 use Rattle.es_query.specs.declared.query.Query.{Query}
+use Rattle.es_sort.specs.declared.sort.Keys.{Keys}
+use Rattle.es_sort.specs.declared.sort.SortSpec.{SortSpec}
+use Rattle.es_sort.specs.Keys.{lists_place}
 use Rattle.list_machine.specs.declared.event.Entry.{Entry}
 use Rattle.list_machine.specs.declared.event.Event.TheVariants.{OpenPit, Search}
 use Rattle.list_machine.specs.declared.event.Target.TheVariants.{Pit}
@@ -25,32 +28,37 @@ pub record Turn (limits : Limits) (history : History) (number : ℕ) : Type 0 wh
   pub found : reply_of limits before entry ≡ Found answer
 
 -- the values of the page's last hit, behind which the next page begins
-pub record EndsAt (hits : List Hit) (after : ℤ) : Type 0 where
+pub record EndsAt (hits : List Hit) (after : List Value) : Type 0 where
   pub front : List Hit
   pub last : Hit
   pub are : hits ≡ front ++ last ∷ []
-  pub shows : last.shown ≡ Long after ∷ []
+  pub shows : last.shown ≡ after
 
 -- the later search begins behind the last hit of the earlier one
 pub record Follows {limits : Limits} {history : History} {number : ℕ} (earlier later : Turn limits history number) : Type 0 where
   pub order : length earlier.before < length later.before
-  pub after : ℤ
-  pub ends : EndsAt earlier.answer.hits after
+  pub after : Keys
+  pub ends : EndsAt earlier.answer.hits after.values
   pub begins : later.request.after ≡ Some after
 
--- the search asks for that query, and shows its places
-pub record Asks {limits : Limits} {history : History} {number : ℕ} (query : Query) (turn : Turn limits history number) : Type 0 where
+-- the search asks for that query in the order of that sort, and leaves out no hit
+pub record Asks {limits : Limits} {history : History} {number : ℕ} (query : Query) (sort : SortSpec) (turn : Turn limits history number) : Type 0 where
   pub query_is : turn.request.query ≡ query
-  pub shows : turn.request.show_place ≡ true
+  pub sort_is : turn.request.sort ≡ sort
+  pub whole : turn.request.from ≡ 0
 
-abbrev pub GoesOn : {limits : Limits} {history : History} {number : ℕ} → Query → Turn limits history number → List (Turn limits history number) → Type 0
-GoesOn query turn [] = Unit {0}
-GoesOn query turn (next ∷ turns) = Follows turn next × Asks query next × GoesOn query next turns
+abbrev pub GoesOn : {limits : Limits} {history : History} {number : ℕ} → Query → SortSpec → Turn limits history number → List (Turn limits history number) → Type 0
+GoesOn query sort turn [] = Unit {0}
+GoesOn query sort turn (next ∷ turns) = Follows turn next × Asks query sort next × GoesOn query sort next turns
 
--- pages of one query in turn: the first begins at the front, and each later one behind the one before
-abbrev pub InTurn : {limits : Limits} {history : History} {number : ℕ} → Query → List (Turn limits history number) → Type 0
-InTurn query [] = Unit {0}
-InTurn query (turn ∷ turns) = (turn.request.after ≡ None) × Asks query turn × GoesOn query turn turns
+-- pages of one query and sort in turn: the first begins at the front, and each later one behind the one before
+abbrev pub InTurn : {limits : Limits} {history : History} {number : ℕ} → Query → SortSpec → List (Turn limits history number) → Type 0
+InTurn query sort [] = Unit {0}
+InTurn query sort (turn ∷ turns) = (turn.request.after ≡ None) × Asks query sort turn × GoesOn query sort turn turns
+
+-- a hit shows its place, as a key of the sort or behind them
+abbrev pub shows_place : SortSpec → Bool
+shows_place sort = sort.show_place || lists_place sort.keys
 
 -- the hits of the pages, joined
 abbrev pub hits_of : {limits : Limits} {history : History} {number : ℕ} → List (Turn limits history number) → List Hit
@@ -75,14 +83,14 @@ pub record Opens (limits : Limits) (history : History) (number : ℕ) (view : Vi
   pub there : index_of index (state_of limits before).indexes ≡ Some found
   pub sees : view ≡ view_of found
 
--- all documents of a view that match, in order, with their places
-abbrev pub documents : View → Query → List Hit
-documents view query = map (hit view true) (enumeration view query)
+-- all documents of a view that match, in the order of a sort, with what they show
+abbrev pub documents : View → Query → SortSpec → List Hit
+documents view query sort = map (hit view sort) (enumeration view query sort)
 
 -- Pages taken in turn are a prefix of the sorted matching documents of the frozen view, and all of them once
 -- a page is short.
 abbrev pub Enumerates : Limits → History → Type 0
 Enumerates limits history =
-    (number : ℕ) (view : View) (query : Query) (turns : List (Turn limits history number))
-    → Opens limits history number view → InTurn query turns
-    → (rest : List Hit) × (documents view query ≡ hits_of turns ++ rest) × (EndsShort turns → rest ≡ [])
+    (number : ℕ) (view : View) (query : Query) (sort : SortSpec) (turns : List (Turn limits history number))
+    → Opens limits history number view → IsTrue (shows_place sort) → InTurn query sort turns
+    → (rest : List Hit) × (documents view query sort ≡ hits_of turns ++ rest) × (EndsShort turns → rest ≡ [])

@@ -1,21 +1,29 @@
--- How a page grows, place by place.
-use Rattle.std.specs.Prelude.{◌≡◌, ◌&&◌, nat_lt, if◌then◌else◌, List, [], ◌∷◌, ◌++◌, length, map, take, filter}
-use Rattle.list_machine.specs.declared.paging.Page.{Page}
-use Rattle.list_machine.specs.declared.search.SearchRequest.{SearchRequest}
-use Rattle.list_machine.specs.declared.search.Hit.{Hit}
-use Rattle.list_machine.specs.Views.{View, Place, hit, is_beyond, matching}
+-- The rows that a search found, with their places and keys.
+use Rattle.std.specs.Prelude.{◌≡◌, Bool, true, List, ◌++◌, map, Option, Some, None, All}
+use Rattle.es_query.specs.declared.query.Query.{Query}
+use Rattle.es_sort.specs.declared.sort.Keys.{Keys}
+use Rattle.es_sort.specs.declared.sort.SortSpec.{SortSpec}
+use Rattle.es_sort.specs.Orders.{is_after}
+use Rattle.list_machine.specs.declared.candidates.Candidate.{Candidate}
+use Rattle.list_machine.specs.Views.{View, Place, key_at, matching}
 
--- the hits behind one more place that matches
-abbrev pub with_place : View → SearchRequest → List Hit → Place → List Hit
-with_place view request hits place =
-    if nat_lt (length hits) request.size && is_beyond request.after place then hits ++ hit view request.show_place place ∷ [] else hits
+abbrev pub place_seen : Candidate → Place
+place_seen one = record { number = one.place; row = one.row.now }
 
--- the page has how many of these places match, and the first hits of those
-pub record IsPageOf (view : View) (request : SearchRequest) (places : List Place) (page : Page) : Type 0 where
-  pub total : page.total ≡ length (matching view request.query places)
-  pub hits : page.hits.items ≡ map (hit view request.show_place) (take request.size (filter (is_beyond request.after) (matching view request.query places)))
+abbrev pub places_seen : List Candidate → List Place
+places_seen them = map place_seen them
 
--- where the old page is of some first places, the new one is of these places too
-abbrev pub AddsPlaces : View → SearchRequest → List Place → Page → Page → Type 0
-AddsPlaces view request places old new =
-    (before : List Place) → IsPageOf view request before old → IsPageOf view request (before ++ places) new
+-- they are these places, each with its key
+pub record AreCandidates (view : View) (sort : SortSpec) (places : List Place) (them : List Candidate) : Type 0 where
+  pub are : places_seen them ≡ places
+  pub keyed : All (λ (one : Candidate). one.key ≡ key_at view sort (place_seen one)) them
+
+-- where the old ones are some first places, the new ones are those too that match among these
+abbrev pub AddsMatching : View → Query → SortSpec → List Place → List Candidate → List Candidate → Type 0
+AddsMatching view query sort places old new =
+    (before : List Place) → AreCandidates view sort before old → AreCandidates view sort (before ++ matching view query places) new
+
+-- whether what is shown of a key is strictly after these values
+abbrev pub key_beyond : SortSpec → Option Keys → Keys → Bool
+key_beyond sort None key = true
+key_beyond sort (Some after) key = is_after sort key after

@@ -1,11 +1,12 @@
 -- The run of the machine over a history.
-use Rattle.std.specs.Prelude.{◌≡◌, ◌≤◌, List, [], ◌∷◌, ◌++◌}
+use Rattle.std.specs.Prelude.{◌≡◌, ◌+◌, ◌≤◌, List, [], ◌∷◌, ◌++◌, length}
 use Rattle.list_machine.specs.declared.event.Entry.{Entry}
 use Rattle.list_machine.specs.declared.event.Event.{Event}
-use Rattle.list_machine.specs.declared.event.Event.TheVariants.{Create, Write}
+use Rattle.list_machine.specs.declared.event.Event.TheVariants.{Create, Search, Write}
 use Rattle.list_machine.specs.declared.event.Change.TheVariants.{Put}
 use Rattle.list_machine.specs.declared.event.Reply.{Reply}
 use Rattle.list_machine.specs.declared.event.Limits.{Limits}
+use Rattle.list_machine.specs.declared.search.SearchRequest.{SearchRequest}
 use Rattle.list_machine.specs.Objects.{IsObject}
 use Rattle.list_machine.specs.State.{State, start}
 use Rattle.list_machine.specs.Step.{step}
@@ -31,10 +32,19 @@ pub record Stands (history before : History) (entry : Entry) : Type 0 where
   pub after : History
   pub is : history ≡ before ++ entry ∷ after
 
--- an index is made with 1 to 1,024 shards
-abbrev pub CreatesSome : Event → Type 0
-CreatesSome (Create index shards mapping) = (1 ≤ shards) × (shards ≤ 1024)
-CreatesSome event = Unit {0}
+-- A search leaves out and asks for at most 10,000 hits together, brings 2 to 1,024 shards together at a time, and sorts by at
+-- most 64 keys.
+pub record IsWithinLimits (request : SearchRequest) : Type 0 where
+  pub window : request.from + request.size ≤ 10000
+  pub batch_least : 2 ≤ request.batch
+  pub batch_most : request.batch ≤ 1024
+  pub keys : length request.sort.keys ≤ 64
+
+-- an index is made with 1 to 1,024 shards, and a search is within the limits of one
+abbrev pub IsBounded : Event → Type 0
+IsBounded (Create index shards mapping) = (1 ≤ shards) × (shards ≤ 1024)
+IsBounded (Search target request) = IsWithinLimits request
+IsBounded event = Unit {0}
 
 -- a put's source is a JSON object
 abbrev pub PutsObject : Event → Type 0

@@ -2,13 +2,13 @@
 use Rattle.std.specs.Prelude.{◌≡◌, ◌≢◌, ◌⊎◌, ℕ, ◌+◌, ◌*◌, ◌≤◌, ◌==◌, List, ◌∷◌, ◌++◌, length, sum_by, count_by, slice_get, Some, All}
 use Rattle.list_machine.specs.declared.event.Entry.{Entry}
 use Rattle.list_machine.specs.declared.event.Event.{Event}
-use Rattle.list_machine.specs.declared.event.Event.TheVariants.{Create, Seal, Publish, Quiet}
+use Rattle.list_machine.specs.declared.event.Event.TheVariants.{Create, Seal, Publish, Search, Quiet}
 use Rattle.list_machine.specs.declared.event.Reply.{Reply}
 use Rattle.list_machine.specs.declared.event.Reply.TheVariants.{Sealed, Spent}
 use Rattle.list_machine.specs.declared.event.Limits.{Limits}
 use Rattle.list_machine.specs.Rows.{Shard}
 use Rattle.list_machine.specs.State.{State, Index}
-use Rattle.list_machine.specs.Run.{History, reply_of, Stands, CreatesSome, PutsObject}
+use Rattle.list_machine.specs.Run.{History, reply_of, Stands, IsBounded, PutsObject}
 
 -- by which number a seat asks, and by which it does what nobody asked it for
 abbrev pub asking : ℕ → ℕ
@@ -27,11 +27,12 @@ pub record HasSealed (limits : Limits) (history : History) (index : List ℕ) (s
   pub sealed : reply_of limits before entry ≡ Sealed numbers
   pub number : slice_get numbers shard ≡ Some upto
 
--- What may be asked. A put needs a JSON object, an index 1 to 1,024 shards, and a Publish a number that a Seal
--- answered for that shard.
+-- What may be asked. A put needs a JSON object, an index 1 to 1,024 shards, a search to be within its limits, and a Publish a
+-- number that a Seal answered for that shard.
 abbrev pub IsAskable : Limits → History → Event → Type 0
 IsAskable limits history (Publish index shard upto) = HasSealed limits history index shard upto
-IsAskable limits history (Create index shards mapping) = CreatesSome (Create index shards mapping)
+IsAskable limits history (Create index shards mapping) = IsBounded (Create index shards mapping)
+IsAskable limits history (Search target request) = IsBounded (Search target request)
 IsAskable limits history Quiet = ⊥
 IsAskable limits history event = PutsObject event
 

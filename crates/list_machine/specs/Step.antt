@@ -8,6 +8,9 @@ use Rattle.es_types.specs.declared.row.Value.{Value}
 use Rattle.es_types.specs.Fields.{fit}
 use Rattle.es_types.specs.Homes.{shard_of}
 use Rattle.es_query.specs.Fits.{fits}
+use Rattle.es_sort.specs.declared.sort.Keys.{Keys}
+use Rattle.es_sort.specs.declared.sort.SortSpec.{SortSpec}
+use Rattle.es_sort.specs.Fits.{after_fits, sort_fits}
 use Rattle.list_machine.specs.declared.event.Entry.{Entry}
 use Rattle.list_machine.specs.declared.event.Event.{Event}
 use Rattle.list_machine.specs.declared.event.Event.TheVariants.{Create, Write, Seal, Publish, OpenPit, Search, Quiet}
@@ -18,7 +21,7 @@ use Rattle.list_machine.specs.declared.event.Target.TheVariants as target
 use Rattle.list_machine.specs.declared.event.Wrote.{Wrote}
 use Rattle.list_machine.specs.declared.event.Wrote.TheVariants.{Created, Updated, Deleted, NotFound}
 use Rattle.list_machine.specs.declared.event.Reply.{Reply}
-use Rattle.list_machine.specs.declared.event.Reply.TheVariants.{Done, Wrote as WroteReply, Sealed, Opened, Found, NoIndex, Exists, Missing, BadDoc, BadQuery, TooMany, ShardFull}
+use Rattle.list_machine.specs.declared.event.Reply.TheVariants.{Done, Wrote as WroteReply, Sealed, Opened, Found, NoIndex, Exists, Missing, BadDoc, BadQuery, BadSort, BadAfter, TooMany, ShardFull}
 use Rattle.list_machine.specs.declared.search.SearchRequest.{SearchRequest}
 use Rattle.list_machine.specs.Rows.{Shard, has_id, last_number, publish, rows_to_come}
 use Rattle.list_machine.specs.Views.{View, answer}
@@ -110,9 +113,22 @@ open_pit state keep (Some index) =
       Opened state.next,
     )
 
--- what a search of a view is answered: a query that has a value of another kind than its field is refused
+-- whether the values that a request goes on behind are those of its sort
+abbrev pub goes_on : View → SortSpec → Option Keys → Bool
+goes_on view sort None = true
+goes_on view sort (Some after) = after_fits view.mapping sort after
+
+-- What a search of a view is answered. First a query that has a value of another kind than its field is refused, then a sort by
+-- a field that isn't mapped, then values to go on behind that are none of the sort.
 abbrev pub search_reply : View → SearchRequest → Reply
-search_reply view request = if fits view.mapping request.query then Found (answer view request 0) else BadQuery
+search_reply view request =
+    if fits view.mapping request.query
+    then (
+    if sort_fits view.mapping request.sort
+    then (if goes_on view request.sort request.after then Found (answer view request request.from) else BadAfter)
+    else BadSort
+    )
+    else BadQuery
 
 abbrev pub search_index : State → SearchRequest → Option Index → State × Reply
 search_index state request None = (state, NoIndex)

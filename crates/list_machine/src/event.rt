@@ -93,6 +93,10 @@ pub enum Reply {
     BadDoc(DocFault),
     /// The query has a value of another kind than its field's.
     BadQuery,
+    /// The sort has a field that isn't mapped.
+    BadSort,
+    /// The values to go on behind are none of the sort.
+    BadAfter,
     /// As many points in time as may be are live, or all indexes together would have more shards than they may have.
     TooMany { limit: u64 },
     ShardFull,

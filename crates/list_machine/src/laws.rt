@@ -1,18 +1,37 @@
-ghost use Rattle.std.specs.Prelude.{◌≡◌, ℕ, ◌≤◌, List, ◌++◌, length, All};
+ghost use Rattle.std.specs.Prelude.{◌≡◌, ℕ, ◌≤◌, List, ◌++◌, length, All, AllPairs, IsTrue};
+ghost use Rattle.std.specs.List.Sorted.{IsPermutation};
+ghost use Rattle.es_query.specs.declared.query.Query.{Query};
+ghost use Rattle.es_sort.specs.declared.sort.SortSpec.{SortSpec};
 ghost use Rattle.list_machine.specs.declared.event.Entry.{Entry};
 ghost use Rattle.list_machine.specs.declared.event.Limits.{Limits};
 ghost use Rattle.list_machine.specs.Pages.{Enumerates};
-ghost use Rattle.list_machine.specs.Run.{CreatesSome, History, PutsObject, reply_of, state_of};
+ghost use Rattle.list_machine.specs.Run.{IsBounded, History, PutsObject, reply_of, state_of};
 ghost use Rattle.list_machine.specs.Stores.{IsCounted};
 ghost use Rattle.list_machine.specs.State.{HasObjects, IsSound, most_shards};
+ghost use Rattle.list_machine.specs.Views.{HasPlaces, Place, View, comes_before, enumeration, found};
 
 use crate::{Event, Reply};
+use es_sort::strict_total_order;
 
 /// Pages of a point in time that are taken in turn are a prefix of the sorted matching documents of its view,
 /// and all of them once a page is short, in every history.
 pub fn pages_in_turn()
     ensures { (limits : Limits) (history : History) → Enumerates limits history }
-{}
+{
+    strict_total_order();
+}
+
+/// The enumeration of a view, whose shards have at most 2^32 rows, is the one list of the places that match in which each comes
+/// before those behind it.
+pub fn one_enumeration()
+    ensures same { (view : View) (query : Query) (sort : SortSpec) → IsPermutation (found view query) (enumeration view query sort) }
+    ensures ordered { (view : View) (query : Query) (sort : SortSpec) → HasPlaces view
+        → AllPairs (λ (a b : Place). IsTrue (comes_before view sort a b)) (enumeration view query sort) }
+    ensures only { (view : View) (query : Query) (sort : SortSpec) (places : List Place) → HasPlaces view → IsPermutation (found view query) places
+        → AllPairs (λ (a b : Place). IsTrue (comes_before view sort a b)) places → places ≡ enumeration view query sort }
+{
+    strict_total_order();
+}
 
 /// Every state that the machine comes to is sound. Where each put of the history is a JSON object, so is each row.
 pub fn sound_states()
@@ -24,7 +43,7 @@ pub fn sound_states()
         → entry.event ≡ Event.Seal index → reply_of limits history entry ≡ Reply.Sealed numbers → length numbers ≤ most_shards }
     // So are its numbers and sizes, by how many entries came before.
     ensures counted { (limits : Limits) (history : History)
-        → All (λ (entry : Entry). CreatesSome entry.event) history → IsCounted (length history) (state_of limits history) }
+        → All (λ (entry : Entry). IsBounded entry.event) history → IsCounted (length history) (state_of limits history) }
     // No entry changes the limits.
     ensures limits { (limits : Limits) (history : History) → (state_of limits history).limits ≡ limits }
     // The moment never falls.

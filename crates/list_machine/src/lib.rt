@@ -3,6 +3,7 @@
 #![tactic(auto)]
 
 mod bounds;
+mod candidates;
 mod context;
 mod creating;
 mod event;
@@ -23,7 +24,7 @@ pub use bounds::bounds_of_each;
 pub use context::ContextStore;
 pub use event::{Change, Entry, Event, Limits, Reply, Target, Wrote};
 pub use first::docs;
-pub use laws::{pages_in_turn, sound_states};
+pub use laws::{one_enumeration, pages_in_turn, sound_states};
 pub use machine::Machine;
 pub use publishing::apply_ops;
 pub use search::{Answer, Counts, Hit, SearchRequest};

@@ -1,5 +1,5 @@
 ghost use Rattle.std.specs.Prelude.{◌≡◌, ◌+◌, ◌<◌, ◌^◌, IfOk, OnOk, OnErr};
-ghost use Rattle.list_machine.specs.Run.{CreatesSome};
+ghost use Rattle.list_machine.specs.Run.{IsBounded};
 ghost use Rattle.list_machine.specs.State.{start};
 ghost use Rattle.list_machine.specs.Step.{happen, step};
 ghost use Rattle.list_machine.specs.Stores.{IsCounted, most_entries, state_seen};
@@ -16,7 +16,8 @@ use es_types::{Moment, NoMemory};
 use std::alloc::Global;
 use std::marker::Model;
 
-/// The machine of one thread over plain lists. A step takes as long as its lists are long.
+/// The machine of one thread over plain lists. A step takes as long as its lists are long; a search puts what it
+/// found in order.
 #[derive(Drop)]
 pub struct Machine {
     alloc: Global,
@@ -51,7 +52,7 @@ impl Machine {
     /// Takes the step of an entry. After `NoMemory` nothing has changed.
     pub fn step(&mut self, entry: &Entry) -> Result<Reply, NoMemory>
         requires early { self.old.entries < 2 ^ 53 }
-        requires creates { CreatesSome entry.now.event }
+        requires bounded { IsBounded entry.now.event }
         ensures reply { IfOk result (λ reply. reply ≡ (step self.old.state entry.now).1) }
         ensures state { OnOk result (self.new ≡ record { state = (step self.old.state entry.now).0; entries = self.old.entries + 1 }) }
         ensures err { OnErr result (self.new ≡ self.old) }
@@ -64,7 +65,8 @@ impl Machine {
 
 /// The step at the later one of the two moments.
 fn take_step(alloc: Global, store: &mut Store, entry: &Entry) -> Result<Reply, NoMemory>
-    requires { IsCounted most_entries (state_seen store.old) }
+    requires counted { IsCounted most_entries (state_seen store.old) }
+    requires bounded { IsBounded entry.now.event }
     ensures ok { IfOk result (λ reply. step (state_seen store.old) entry.now ≡ (state_seen store.new, reply)) }
     ensures err { OnErr result (state_seen store.new ≡ state_seen store.old) }
 {
@@ -80,7 +82,8 @@ fn reply_to(
     moment: Moment,
     event: &Event,
 ) -> Result<Reply, NoMemory>
-    requires { IsCounted most_entries (state_seen store.old) }
+    requires counted { IsCounted most_entries (state_seen store.old) }
+    requires bounded { IsBounded event.now }
     ensures ok { IfOk result (λ reply. happen (record (state_seen store.old) { moment = moment }) event.now
         ≡ (record (state_seen store.new) { moment = moment }, reply)) }
     ensures err { OnErr result (state_seen store.new ≡ state_seen store.old) }

@@ -1,36 +1,32 @@
-ghost use Rattle.std.specs.Prelude.{◌≡◌, ◌+◌, ◌<◌, ◌≤◌, ◌^◌, [], ◌∷◌, count_by, length, IfOk, OnOk};
+ghost use Rattle.std.specs.Prelude.{◌≡◌, ◌≤◌, All, count_by, filter, length, map, IfOk};
 ghost use Rattle.es_query.specs.Excluded.{excluded};
-ghost use Rattle.es_query.specs.Limits.{bounds_of};
-ghost use Rattle.es_types.specs.declared.row.Row.{Row};
+ghost use Rattle.list_machine.specs.declared.candidates.Candidate.{Candidate as Found};
 ghost use Rattle.list_machine.specs.declared.view.ShardRef.{ShardRef as Shard};
-ghost use Rattle.list_machine.specs.Paging.{AddsPlaces, IsPageOf, with_place};
+ghost use Rattle.list_machine.specs.Paging.{AreCandidates, key_beyond, place_seen};
+ghost use Rattle.list_machine.specs.Run.{IsWithinLimits};
 ghost use Rattle.list_machine.specs.State.{most_shards};
 ghost use Rattle.list_machine.specs.Stores.{AreBounded, IsSmall, view_at};
-ghost use Rattle.list_machine.specs.Views.{answer, hit, is_beyond, phases, places_from, places_of_shard};
+ghost use Rattle.list_machine.specs.Views.{answer, enumeration, hit, is_beyond, key_at, page, phases};
 
+use crate::candidates::{Candidate, candidates};
 use crate::view::{ShardRef, ViewRef};
 use crate::{Answer, Counts, Hit, SearchRequest};
-use es_query::{Query, nothing_excluded_matches};
-use es_types::{Copied, Items, Mapping, NoMemory, Row, Value};
+use es_query::Query;
+use es_sort::{SortSpec, strict_total_order};
+use es_types::{Copied, Items, Mapping, NoMemory, Value, copy_all};
 use std::alloc::Global;
 
-/// The number of the first place of a shard is the shard's number times this.
-const PLACES: u64 = 4_294_967_296;
-
-/// A page so far: how many rows matched, and the hits.
-#[derive(Drop)]
-struct Page {
-    total: u64,
-    hits: Vec<Hit>,
-}
-
-/// The answer to a search of a view. A shard whose bounds exclude the query is not looked at.
+/// The answer to a search of a view, in the order of its sort.
 pub fn answer(alloc: Global, view: &ViewRef, request: &SearchRequest) -> Result<Answer, NoMemory>
     requires bounded { AreBounded view.now }
     requires small { IsSmall (view_at view.now) }
-    ensures { IfOk result (λ it. it ≡ answer (view_at view.now) request.now 0) }
+    requires within { IsWithinLimits request.now }
+    ensures { IfOk result (λ it. it ≡ answer (view_at view.now) request.now request.now.from) }
 {
-    let page = page_of(alloc, view, request)?;
+    let found = found_in_order(alloc, view, request)?;
+    let total = found.len() as u64;
+    let left = beyond(request, found);
+    let hits = page_of(alloc, view, request, &left)?;
     let shards = view.shards.len() as u32;
     let skipped = count_excluded(&request.query, view.mapping, view.shards);
     Ok(Answer {
@@ -40,16 +36,18 @@ pub fn answer(alloc: Global, view: &ViewRef, request: &SearchRequest) -> Result<
             skipped,
             failed: 0,
         },
-        phases: phases(shards - skipped),
-        total: page.total,
-        hits: Items::of(page.hits),
+        phases: phases(shards - skipped, request.batch),
+        total,
+        hits: Items::of(hits),
     })
 }
 
-fn phases(shards: u32) -> u32
-    ensures { result ≡ phases shards }
+fn phases(shards: u32, batch: u32) -> u32
+    requires some { 2 ≤ batch }
+    requires few { shards ≤ most_shards }
+    ensures { result ≡ phases shards batch }
 {
-    1 + shards.saturating_sub(1) / 512
+    1 + shards.saturating_sub(1) / batch
 }
 
 /// How many shards' bounds exclude a query.
@@ -63,132 +61,83 @@ fn count_excluded(query: &Query, mapping: &Mapping, shards: &[ShardRef]) -> u32
     excluded.count() as u32
 }
 
-/// The places in order, shard by shard: how many match, and the hits.
-fn page_of(alloc: Global, view: &ViewRef, request: &SearchRequest) -> Result<Page, NoMemory>
+/// All rows that match, in the order of the sort.
+fn found_in_order<'a>(
+    alloc: Global,
+    view: &ViewRef<'a>,
+    request: &SearchRequest,
+) -> Result<Vec<Candidate<'a>>, NoMemory>
     requires bounded { AreBounded view.now }
     requires small { IsSmall (view_at view.now) }
-    ensures { IfOk result (IsPageOf (view_at view.now) request.now (places_from 0 (view_at view.now).shards)) }
+    ensures { IfOk result (λ them. AreCandidates (view_at view.now) request.now.sort
+        (enumeration (view_at view.now) request.now.query request.now.sort) them.items) }
 {
-    let mut page = Page {
-        total: 0,
-        hits: Vec::new(alloc),
-    };
-    for (at, shard) in view.shards.iter().enumerate() {
-        look_at(alloc, &mut page, view, request, at as u64 * PLACES, shard)?;
-    }
-    Ok(page)
+    let mut them = candidates(alloc, view, request)?;
+    strict_total_order();
+    them.sort_unstable_by(|a, b| request.sort.compare(&a.key, &b.key));
+    Ok(them)
 }
 
-/// The places of one more shard, of which that is the number of the first.
-fn look_at(
+/// Those behind the values that the request gives.
+fn beyond<'a>(request: &SearchRequest, found: Vec<Candidate<'a>>) -> Vec<Candidate<'a>>
+    ensures { result.items ≡ filter (λ (one : Found). key_beyond request.now.sort request.now.after one.key) found.entry.items }
+{
+    let mut left = found;
+    if let Some(after) = &request.after {
+        left.retain(|one| request.sort.is_after(&one.key, after));
+    }
+    left
+}
+
+/// Of these the page that is asked for.
+fn page_of(
     alloc: Global,
-    page: &mut Page,
     view: &ViewRef,
     request: &SearchRequest,
-    first: u64,
-    shard: &ShardRef,
-) -> Result<(), NoMemory>
-    requires early { first < 2 ^ 62 }
-    requires room { page.old.total < 2 ^ 62 }
-    requires few { length shard.now.rows.now ≤ 2147483647 }
-    requires bounded { shard.now.bounds.now ≡ bounds_of view.now.mapping.now shard.now.rows.now }
-    ensures adds { OnOk result (AddsPlaces (view_at view.now) request.now (places_of_shard first shard.now.rows.now) page.old page.new) }
-    ensures few { OnOk result (page.new.total ≤ page.old.total + 2147483647) }
+    left: &[Candidate],
+) -> Result<Vec<Hit>, NoMemory>
+    requires { AreCandidates (view_at view.now) request.now.sort
+        (filter (is_beyond (view_at view.now) request.now.sort request.now.after)
+        (enumeration (view_at view.now) request.now.query request.now.sort)) left.now }
+    ensures { IfOk result (λ hits. hits.items ≡ map (hit (view_at view.now) request.now.sort) (page (view_at view.now) request.now request.now.from)) }
 {
-    if request.query.excluded(view.mapping, shard.bounds) {
-        nothing_excluded_matches();
-        return Ok(());
-    }
-    add_rows(alloc, page, view, request, first, shard.rows)
+    let start = (request.from as usize).min(left.len());
+    let rest = &left[start..];
+    let end = (request.size as usize).min(rest.len());
+    hits_of(alloc, view, &request.sort, &rest[..end])
 }
 
-fn add_rows(
+fn hits_of(
     alloc: Global,
-    page: &mut Page,
     view: &ViewRef,
-    request: &SearchRequest,
-    first: u64,
-    rows: &[Row],
-) -> Result<(), NoMemory>
-    requires early { first < 2 ^ 62 }
-    requires room { page.old.total < 2 ^ 62 }
-    requires few { length rows.now ≤ 2147483647 }
-    ensures adds { OnOk result (AddsPlaces (view_at view.now) request.now (places_of_shard first rows.now) page.old page.new) }
-    ensures few { OnOk result (page.new.total ≤ page.old.total + length rows.now) }
+    sort: &SortSpec,
+    them: &[Candidate],
+) -> Result<Vec<Hit>, NoMemory>
+    requires { All (λ one. one.key ≡ key_at (view_at view.now) sort.now (place_seen one)) them.now }
+    ensures { IfOk result (λ hits. hits.items ≡ map (λ one. hit (view_at view.now) sort.now (place_seen one)) them.now) }
 {
-    for (rank, row) in rows.iter().enumerate() {
-        add_row(alloc, page, view, request, first + rank as u64, row)?;
+    let mut hits = Vec::with_capacity(alloc, them.len())?;
+    for one in them {
+        hits.push(make_hit(alloc, view, sort, one)?)?;
     }
-    Ok(())
-}
-
-/// One more place, if its row matches.
-fn add_row(
-    alloc: Global,
-    page: &mut Page,
-    view: &ViewRef,
-    request: &SearchRequest,
-    place: u64,
-    row: &Row,
-) -> Result<(), NoMemory>
-    requires early { place < 2 ^ 63 }
-    requires room { page.old.total < 2 ^ 63 }
-    ensures adds { OnOk result (AddsPlaces (view_at view.now) request.now (record { number = place; row = row.now } ∷ []) page.old page.new) }
-    ensures few { OnOk result (page.new.total ≤ page.old.total + 1) }
-{
-    if !request.query.matches(view.mapping, row) {
-        return Ok(());
-    }
-    page.total += 1;
-    add_hit(alloc, &mut page.hits, view, request, place, row)
-}
-
-/// One more hit, if the page has room for it and its place is beyond what the request gives.
-fn add_hit(
-    alloc: Global,
-    hits: &mut Vec<Hit>,
-    view: &ViewRef,
-    request: &SearchRequest,
-    place: u64,
-    row: &Row,
-) -> Result<(), NoMemory>
-    requires { place < 2 ^ 63 }
-    ensures { OnOk result (hits.new.items ≡ with_place (view_at view.now) request.now hits.old.items (record { number = place; row = row.now })) }
-{
-    if hits.len() < request.size as usize && comes_behind(place, request.after) {
-        hits.push(make_hit(alloc, view, request.show_place, place, row)?)?;
-    }
-    Ok(())
-}
-
-fn comes_behind(place: u64, after: Option<i64>) -> bool
-    requires { place < 2 ^ 63 }
-    ensures { (row : Row) → result ≡ is_beyond after (record { number = place; row = row }) }
-{
-    match after {
-        None => true,
-        Some(after) => after < place as i64,
-    }
+    Ok(hits)
 }
 
 fn make_hit(
     alloc: Global,
     view: &ViewRef,
-    shows: bool,
-    place: u64,
-    row: &Row,
+    sort: &SortSpec,
+    one: &Candidate,
 ) -> Result<Hit, NoMemory>
-    requires { place < 2 ^ 63 }
-    ensures { IfOk result (λ it. it ≡ hit (view_at view.now) shows (record { number = place; row = row.now })) }
+    requires { one.now.key ≡ key_at (view_at view.now) sort.now (place_seen one.now) }
+    ensures { IfOk result (λ it. it ≡ hit (view_at view.now) sort.now (place_seen one.now)) }
 {
-    let mut shown = Vec::new(alloc);
-    if shows {
-        shown.push(Value::Long(place as i64))?;
-    }
+    let values = one.key.values.as_slice();
+    let shown = copy_all(alloc, &values[..sort.shown()])?;
     Ok(Hit {
         index: view.index.copy(alloc)?,
-        id: row.id.copy(alloc)?,
-        source: row.source.copy(alloc)?,
+        id: one.row.id.copy(alloc)?,
+        source: one.row.source.copy(alloc)?,
         shown: Items::of(shown),
     })
 }

@@ -1,17 +1,20 @@
 use es_query::Query;
+use es_sort::{Keys, SortSpec};
 use es_types::{Bytes, DocId, IndexName, Items, Value};
 
-/// What a search asks for: at most `size` of the rows that match, strictly after the place `after` where one is given. A hit
-/// shows its place where `show_place` says so.
+/// What a search asks for: the rows that match, in the order of `sort`, and of those strictly behind the values `after`, where
+/// they are given, at most `size` without the first `from`. The tops of its shards are brought together `batch` at a time.
 #[derive(Drop)]
 pub struct SearchRequest {
     pub query: Query,
-    pub show_place: bool,
+    pub sort: SortSpec,
+    pub from: u32,
     pub size: u32,
-    pub after: Option<i64>,
+    pub after: Option<Keys>,
+    pub batch: u32,
 }
 
-/// A document that a search found, with the values that it was ordered by.
+/// A document that a search found, with the values that are shown of those that it was ordered by.
 #[derive(Drop)]
 pub struct Hit {
     pub index: IndexName,

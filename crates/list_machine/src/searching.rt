@@ -1,8 +1,12 @@
-ghost use Rattle.std.specs.Prelude.{◌≡◌, ◌==◌, find, length, map, All, IfOk, option_copied};
+ghost use Rattle.std.specs.Prelude.{◌≡◌, ℕ, ◌==◌, List, find, length, map, unwrap_or, All, IfOk, option_copied};
+ghost use Rattle.es_types.specs.declared.row.Row.{Row as RowOf};
 ghost use Rattle.list_machine.specs.declared.event.Event.TheVariants.{Search};
+ghost use Rattle.list_machine.specs.declared.event.Reply.TheVariants.{Found};
+ghost use Rattle.list_machine.specs.Run.{IsWithinLimits};
 ghost use Rattle.list_machine.specs.State.{Context, Index, IsSoundShard, State, context_of, index_of};
 ghost use Rattle.list_machine.specs.Step.{happen, search_index, search_pit, search_reply};
 ghost use Rattle.list_machine.specs.Stores.{IsCounted, IsCountedIndex, IsSmall, bounds_of_each, contexts_seen, indexes_seen, most_entries, state_seen, view_over, view_seen};
+ghost use Rattle.list_machine.specs.Views.{answer};
 
 use crate::bounds::{bounds_of_each, rows_of_context};
 use crate::context::ContextStore;
@@ -21,7 +25,8 @@ pub fn search(
     target: &Target,
     request: &SearchRequest,
 ) -> Result<Reply, NoMemory>
-    requires { IsCounted most_entries (state_seen store.now) }
+    requires counted { IsCounted most_entries (state_seen store.now) }
+    requires within { IsWithinLimits request.now }
     ensures { IfOk result (λ reply. happen (record (state_seen store.now) { moment = moment }) (Search target.now request.now)
         ≡ (record (state_seen store.now) { moment = moment }, reply)) }
 {
@@ -39,6 +44,7 @@ fn search_index(
 ) -> Result<Reply, NoMemory>
     requires counted { All (IsCountedIndex most_entries) (indexes_seen indexes.now) }
     requires sound { All (λ (index : Index). All IsSoundShard index.shards) (indexes_seen indexes.now) }
+    requires within { IsWithinLimits request.now }
     ensures { IfOk result (λ reply. (state : State) → search_index state request.now (index_of name.now (indexes_seen indexes.now)) ≡ (state, reply)) }
 {
     let Some(at) = place_of(indexes, name) else {
@@ -57,7 +63,8 @@ fn search_pit(
     number: u64,
     request: &SearchRequest,
 ) -> Result<Reply, NoMemory>
-    requires { All (λ (context : Context). IsSmall context.view) (contexts_seen contexts.now) }
+    requires small { All (λ (context : Context). IsSmall context.view) (contexts_seen contexts.now) }
+    requires within { IsWithinLimits request.now }
     ensures { IfOk result (λ reply. (state : State) → search_pit (record state { moment = moment }) request.now (context_of number (contexts_seen contexts.now))
         ≡ (record state { moment = moment }, reply)) }
 {
@@ -83,7 +90,8 @@ pub fn search_context(
     context: &ContextStore,
     request: &SearchRequest,
 ) -> Result<Reply, NoMemory>
-    requires { IsSmall (view_seen context.now) }
+    requires small { IsSmall (view_seen context.now) }
+    requires within { IsWithinLimits request.now }
     ensures { IfOk result (λ reply. reply ≡ search_reply (view_seen context.now) request.now) }
 {
     let rows = rows_of_context(alloc, &context.shards)?;
@@ -109,10 +117,11 @@ pub fn search_rows(
 ) -> Result<Reply, NoMemory>
     requires small { IsSmall (view_over index.now mapping.now (map (λ rows. rows.now) rows.now)) }
     requires bounded { bounds.now ≡ bounds_of_each mapping.now (map (λ rows. rows.now) rows.now) }
+    requires within { IsWithinLimits request.now }
     ensures { IfOk result (λ reply. reply ≡ search_reply (view_over index.now mapping.now (map (λ rows. rows.now) rows.now)) request.now) }
 {
-    if request.query.fit(mapping).is_err() {
-        return Ok(Reply::BadQuery);
+    if let Some(refused) = refused(mapping, request) {
+        return Ok(refused);
     }
     let shards = shards_of(alloc, rows, bounds)?;
     let view = ViewRef {
@@ -121,6 +130,24 @@ pub fn search_rows(
         shards: &shards,
     };
     Ok(Reply::Found(answer(alloc, &view, request)?))
+}
+
+/// Why a search doesn't fit the mapping: by its query, its sort, or the values that it goes on behind.
+fn refused(mapping: &Mapping, request: &SearchRequest) -> Option<Reply>
+    ensures { (index : List ℕ) (shards : List (List RowOf)) → search_reply (view_over index mapping.now shards) request.now
+        ≡ unwrap_or result (Found (answer (view_over index mapping.now shards) request.now request.now.from)) }
+{
+    if request.query.fit(mapping).is_err() {
+        return Some(Reply::BadQuery);
+    }
+    if request.sort.fit(mapping).is_err() {
+        return Some(Reply::BadSort);
+    }
+    let after = request.after.as_ref()?;
+    if request.sort.after_ok(mapping, after).is_err() {
+        return Some(Reply::BadAfter);
+    }
+    None
 }
 
 fn rows_of_index<'a>(alloc: Global, shards: &'a [ShardStore]) -> Result<Vec<&'a [Row]>, NoMemory>

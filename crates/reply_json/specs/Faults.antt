@@ -4,7 +4,7 @@ use Rattle.json.specs.Print.{quoted}
 use Rattle.es_types.specs.declared.fit.DocCause.{DocCause}
 use Rattle.es_types.specs.declared.fit.DocCause.TheVariants.{Kind, TooLong}
 use Rattle.es_types.specs.declared.limit.LimitName.{LimitName}
-use Rattle.es_types.specs.declared.limit.LimitName.TheVariants.{Index, Id, Shards, Fields, Pit, Window}
+use Rattle.es_types.specs.declared.limit.LimitName.TheVariants.{Index, Id, Shards, Fields, Pit, From, Window, Sort}
 use Rattle.reply_json.specs.declared.fault.RestFault.{RestFault}
 use Rattle.reply_json.specs.declared.fault.RestFault.TheVariants as fault
 use Rattle.reply_json.specs.Pieces.{joined}
@@ -19,6 +19,8 @@ fault_status (fault.NoIndex name) = 404
 fault_status (fault.Exists name) = 400
 fault_status (fault.BadDoc doc) = 400
 fault_status fault.BadQuery = 400
+fault_status fault.BadSort = 400
+fault_status fault.BadAfter = 400
 fault_status (fault.NoContext id) = 404
 fault_status (fault.TooMany limit) = 429
 fault_status fault.ShardFull = 429
@@ -34,6 +36,8 @@ fault_type (fault.NoIndex name) = codes "index_not_found_exception"
 fault_type (fault.Exists name) = codes "resource_already_exists_exception"
 fault_type (fault.BadDoc doc) = codes "document_parsing_exception"
 fault_type fault.BadQuery = codes "query_shard_exception"
+fault_type fault.BadSort = codes "query_shard_exception"
+fault_type fault.BadAfter = codes "illegal_argument_exception"
 fault_type (fault.NoContext id) = codes "search_context_missing_exception"
 fault_type (fault.TooMany limit) = codes "too_many_contexts_exception"
 fault_type fault.ShardFull = codes "shard_full_exception"
@@ -49,7 +53,9 @@ limit_word Id = codes "id"
 limit_word Shards = codes "shards"
 limit_word Fields = codes "fields"
 limit_word Pit = codes "pit"
+limit_word From = codes "from"
 limit_word Window = codes "window"
+limit_word Sort = codes "sort"
 
 abbrev pub reason : RestFault → List ℕ
 reason fault.NotBuilt = codes "not built"
@@ -61,6 +67,8 @@ reason (fault.NoIndex name) = joined (codes "no such index [" ∷ name ∷ codes
 reason (fault.Exists name) = joined (codes "index [" ∷ name ∷ codes "] exists" ∷ [])
 reason (fault.BadDoc doc) = joined (codes "field [" ∷ decimal doc.field ∷ codes "] has a value " ∷ cause_text doc.cause ∷ [])
 reason fault.BadQuery = codes "a query value of another kind"
+reason fault.BadSort = codes "no mapping for a sort field"
+reason fault.BadAfter = codes "search_after does not fit the sort"
 reason (fault.NoContext id) = joined (codes "no context [" ∷ id ∷ codes "]" ∷ [])
 reason (fault.TooMany limit) = joined (codes "limit [" ∷ decimal limit ∷ codes "]" ∷ [])
 reason fault.ShardFull = codes "shard is full"

@@ -25,6 +25,10 @@ pub enum RestFault {
     BadDoc(DocFault),
     /// The query has a value of another kind than its field's.
     BadQuery,
+    /// The sort has a field that isn't mapped.
+    BadSort,
+    /// The values to go on behind are none of the sort.
+    BadAfter,
     /// No context of that id is live.
     NoContext(Text),
     /// As many contexts as may be are live; the number is how many.

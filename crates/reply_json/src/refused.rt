@@ -21,6 +21,8 @@ pub fn fault_status(fault: &RestFault) -> u16
         RestFault::Exists(_) => 400,
         RestFault::BadDoc(_) => 400,
         RestFault::BadQuery => 400,
+        RestFault::BadSort => 400,
+        RestFault::BadAfter => 400,
         RestFault::NoContext(_) => 404,
         RestFault::TooMany(_) => 429,
         RestFault::ShardFull => 429,
@@ -41,6 +43,8 @@ fn fault_type(fault: &RestFault) -> &'static str
         RestFault::Exists(_) => "resource_already_exists_exception",
         RestFault::BadDoc(_) => "document_parsing_exception",
         RestFault::BadQuery => "query_shard_exception",
+        RestFault::BadSort => "query_shard_exception",
+        RestFault::BadAfter => "illegal_argument_exception",
         RestFault::NoContext(_) => "search_context_missing_exception",
         RestFault::TooMany(_) => "too_many_contexts_exception",
         RestFault::ShardFull => "shard_full_exception",
@@ -81,7 +85,9 @@ fn limit_word(name: LimitName) -> &'static str
         LimitName::Shards => "shards",
         LimitName::Fields => "fields",
         LimitName::Pit => "pit",
+        LimitName::From => "from",
         LimitName::Window => "window",
+        LimitName::Sort => "sort",
     }
 }
 
@@ -104,6 +110,8 @@ fn reason(alloc: Global, fault: &RestFault) -> Result<String, NoMemory>
         RestFault::Exists(name) => around(alloc, "index [", name.as_str(), "] exists"),
         RestFault::BadDoc(doc) => bad_doc(alloc, *doc),
         RestFault::BadQuery => String::from_str(alloc, "a query value of another kind"),
+        RestFault::BadSort => String::from_str(alloc, "no mapping for a sort field"),
+        RestFault::BadAfter => String::from_str(alloc, "search_after does not fit the sort"),
         RestFault::NoContext(id) => around(alloc, "no context [", id.as_str(), "]"),
         RestFault::TooMany(limit) => over_limit(alloc, *limit),
         RestFault::ShardFull => String::from_str(alloc, "shard is full"),

@@ -1,11 +1,10 @@
--- Which objects have a single member, and which lists a single item.
+-- Which objects have a single member.
 use Rattle.std.proofs.Common.{◌≡◌, List, [], ◌∷◌, length, Some, None, string_bytes, refl, ap, arith}
 use Rattle.std.specs.List.{slice_get}
 use Rattle.std.specs.Prelude.{String}
 use Rattle.std.specs.declared.alloc.Global.{Global}
 use Rattle.serde_json.specs.declared.value.Value.{Value}
-use Rattle.serde_json.specs.View.{items_view, members_view, view}
-use Rattle.search_json.specs.Searches.{one_number}
+use Rattle.serde_json.specs.View.{members_view, view}
 use Rattle.search_json.specs.Values.{only}
 
 -- an object with another number of entries has no only member
@@ -21,9 +20,3 @@ the_one (only ∷ []) entry one first =
     let same : only ≡ entry = cc in
     ap (λ e. Some (string_bytes e.0, view e.1)) same
 the_one (only ∷ next ∷ entries) entry one first = absurd (omega arith)
-
--- a list of another length has no single number
-pub no_single_number : (values : List Value) → (length values ≡ 1 → ⊥) → one_number (items_view values) ≡ None
-no_single_number [] other = refl
-no_single_number (value ∷ []) other = absurd (other refl)
-no_single_number (value ∷ next ∷ values) other = refl

@@ -1,4 +1,5 @@
 pub mod Ids
 pub mod Values
 pub mod Queries
+pub mod Sorts
 pub mod Searches

@@ -1,23 +1,38 @@
-ghost use Rattle.std.specs.Prelude.{◌≡◌, IfOk, option_map};
-ghost use Rattle.serde_json.specs.View.{items_view, view};
+ghost use Rattle.std.specs.Prelude.{◌≡◌, ◌+◌, ◌≤◌, IfNone, IfOk, length, option_map};
+ghost use Rattle.serde_json.specs.View.{view};
 ghost use Rattle.es_types.specs.Fail.{Answers};
-ghost use Rattle.search_json.specs.Searches.{after_of, asked, asked_of, has_form, has_pit_form, has_track_form, is_after_unbuilt, is_paged_otherwise, is_pit_unbuilt, is_unbuilt, judged, limited, one_number, pit_id, pit_named, search_of, size_of};
+ghost use Rattle.list_machine.specs.Run.{IsWithinLimits};
+ghost use Rattle.search_json.specs.Searches.{asked, asked_of, broken, count_in, from_of, has_form, has_pit_form, has_track_form, is_pit_unbuilt, is_unbuilt, judged, limited, pit_id, pit_named, search_of, size_of, span_in};
 
+use crate::after::after_of;
 use crate::ids::pit_number;
 use crate::query::query_of;
+use crate::sort::{NamedKey, breaks_sort, sort_keys, sort_of};
 use crate::value::small_of;
 use doc_json::{BodyFault, filled, is_form, read_data};
 use es_query::Query;
-use es_types::{Fail, LimitName, NoMemory};
+use es_sort::{Keys, SortSpec};
+use es_types::{Fail, Items, LimitName, NoMemory};
 use list_machine::SearchRequest;
 use serde_json::Value;
 use std::alloc::Global;
 
-/// The most hits that a search may ask for.
-const WINDOW_LIMIT: u32 = 10_000;
+/// The most hits that a search may leave out and ask for together.
+const WINDOW_LIMIT: u64 = 10_000;
 
 /// How many hits a search gets that doesn't say it.
 const USUAL_SIZE: u32 = 10;
+
+/// The tops of how many shards are brought together at a time.
+const USUAL_BATCH: u32 = 512;
+
+/// How many hits a search leaves out, how many it wants, and behind which values.
+#[derive(Drop)]
+struct Span {
+    from: u32,
+    size: u32,
+    after: Option<Keys>,
+}
 
 /// What the body of a search asks for, and the point in time that it names.
 #[derive(Drop)]
@@ -29,7 +44,7 @@ pub struct SearchBody {
 /// What the body of a search asks for. `has_index` says that the path names an index, and the points in time 1 to `newest`
 /// were opened in this run. An empty body counts as `{}`.
 ///
-/// What isn't built is told first, then a form that is wrong, then a limit that is broken.
+/// A body that is no JSON is told first, then what isn't built, then a form that is wrong, then a limit that is broken.
 #[tactic(auto, unfolding(crate::specs::Searches::search_of))]
 pub fn read_search(
     alloc: Global,
@@ -37,7 +52,8 @@ pub fn read_search(
     has_index: bool,
     newest: u64,
 ) -> Result<SearchBody, Fail<BodyFault>>
-    ensures { Answers result (search_of has_index newest body.now) }
+    ensures read { Answers result (search_of has_index newest body.now) }
+    ensures within { IfOk result (λ it. IsWithinLimits it.request) }
 {
     let Some(value) = read_data(alloc, filled(body))? else {
         return Err(Fail::Is(BodyFault::NotJson));
@@ -53,9 +69,10 @@ fn judged(
     named: Option<u64>,
     value: &Value,
 ) -> Result<SearchBody, Fail<BodyFault>>
-    ensures { Answers result (judged has_index named (view value.now)) }
+    ensures judged { Answers result (judged has_index named (view value.now)) }
+    ensures within { IfOk result (λ it. IsWithinLimits it.request) }
 {
-    if is_unbuilt(has_index, named, value) {
+    if is_unbuilt(named, value) {
         return Err(Fail::Is(BodyFault::NotBuilt));
     }
     if !has_form(value) {
@@ -71,41 +88,74 @@ fn asked(
     named: Option<u64>,
     value: &Value,
 ) -> Result<SearchBody, Fail<BodyFault>>
-    ensures { Answers result (asked has_index named (view value.now)) }
+    ensures asked { Answers result (asked has_index named (view value.now)) }
+    ensures within { IfOk result (λ it. IsWithinLimits it.request) }
 {
-    let Some(size) = size_of(value) else {
+    let Some(span) = span_in(alloc, value)? else {
+        return Err(Fail::Is(BodyFault::Shape));
+    };
+    let Some(keys) = sort_of(alloc, value)? else {
         return Err(Fail::Is(BodyFault::Shape));
     };
     let Some(query) = asked_of(alloc, value)? else {
         return Err(Fail::Is(BodyFault::Shape));
     };
-    let request = SearchRequest {
-        query,
-        show_place: named.is_some(),
-        size,
-        after: after_of(value),
-    };
-    limited(has_index, request, named)
+    limited(alloc, has_index, named, span, keys, query)
 }
 
 // What is asked for, where it breaks no limit.
 fn limited(
+    alloc: Global,
     has_index: bool,
-    request: SearchRequest,
     named: Option<u64>,
+    span: Span,
+    keys: Vec<NamedKey>,
+    query: Query,
 ) -> Result<SearchBody, Fail<BodyFault>>
-    ensures { Answers result (limited has_index request named) }
+    ensures limited { Answers result (limited has_index named span keys.items query) }
+    ensures within { IfOk result (λ it. IsWithinLimits it.request) }
 {
-    if has_index == named.is_some() {
-        return Err(Fail::Is(BodyFault::Limit(LimitName::Pit)));
+    if let Some(name) = broken(has_index, named.is_some(), &span, &keys) {
+        return Err(Fail::Is(BodyFault::Limit(name)));
     }
-    if request.size > WINDOW_LIMIT {
-        return Err(Fail::Is(BodyFault::Limit(LimitName::Window)));
-    }
+    let Span { from, size, after } = span;
+    let sort = SortSpec {
+        keys: Items::of(sort_keys(alloc, keys)?),
+        show_place: named.is_some(),
+    };
+    let request = SearchRequest {
+        query,
+        sort,
+        from,
+        size,
+        after,
+        batch: USUAL_BATCH,
+    };
     Ok(SearchBody {
         request,
         pit: named,
     })
+}
+
+// The first limit that is broken.
+fn broken(has_index: bool, in_pit: bool, span: &Span, keys: &[NamedKey]) -> Option<LimitName>
+    ensures first { result ≡ broken has_index in_pit span.now keys.now }
+    ensures window { IfNone result (span.now.from + span.now.size ≤ 10000) }
+    ensures keys { IfNone result (length keys.now ≤ 64) }
+{
+    if has_index == in_pit {
+        return Some(LimitName::Pit);
+    }
+    if span.after.is_some() && span.from > 0 {
+        return Some(LimitName::From);
+    }
+    if span.from as u64 + span.size as u64 > WINDOW_LIMIT {
+        return Some(LimitName::Window);
+    }
+    if breaks_sort(in_pit, keys) {
+        return Some(LimitName::Sort);
+    }
+    None
 }
 
 // ---- members
@@ -135,25 +185,29 @@ fn pit_named(alloc: Global, newest: u64, value: &Value) -> Result<Option<u64>, N
     }
 }
 
-fn one_number(values: &[Value]) -> Option<i64>
-    ensures { result ≡ one_number (items_view values.now) }
+fn count_in(usual: u32, count: Option<&Value>) -> Option<u32>
+    ensures { result ≡ count_in usual (option_map (λ it. view it.now) count.entry) }
 {
-    match values {
-        [only] => only.as_i64(),
-        _ => None,
+    match count {
+        Some(count) => small_of(count),
+        None => Some(usual),
     }
 }
 
-#[tactic(auto, unfolding(crate::specs::Searches::after_of))]
-fn after_of(value: &Value) -> Option<i64>
-    ensures { result ≡ after_of (view value.now) }
+// How many hits are left out, how many are wanted, and behind which values.
+#[tactic(auto, unfolding(crate::specs::Searches::span_in))]
+fn span_in(alloc: Global, value: &Value) -> Result<Option<Span>, NoMemory>
+    ensures { IfOk result (λ span. span ≡ span_in (view value.now)) }
 {
-    match value.get("search_after") {
-        Some(after) => match after.as_array() {
-            Some(values) => one_number(values.as_slice()),
-            None => None,
-        },
-        None => None,
+    let Some(from) = from_of(value) else {
+        return Ok(None);
+    };
+    let Some(size) = size_of(value) else {
+        return Ok(None);
+    };
+    match after_of(alloc, value)? {
+        Some(after) => Ok(Some(Span { from, size, after })),
+        None => Ok(None),
     }
 }
 
@@ -161,10 +215,14 @@ fn after_of(value: &Value) -> Option<i64>
 fn size_of(value: &Value) -> Option<u32>
     ensures { result ≡ size_of (view value.now) }
 {
-    match value.get("size") {
-        Some(size) => small_of(size),
-        None => Some(USUAL_SIZE),
-    }
+    count_in(USUAL_SIZE, value.get("size"))
+}
+
+#[tactic(auto, unfolding(crate::specs::Searches::from_of))]
+fn from_of(value: &Value) -> Option<u32>
+    ensures { result ≡ from_of (view value.now) }
+{
+    count_in(0, value.get("from"))
 }
 
 #[tactic(auto, unfolding(crate::specs::Searches::asked_of))]
@@ -179,24 +237,11 @@ fn asked_of(alloc: Global, value: &Value) -> Result<Option<Query>, NoMemory>
 
 // ---- what isn't built
 
-fn is_unbuilt(has_index: bool, named: Option<u64>, value: &Value) -> bool
-    ensures { result ≡ is_unbuilt has_index named (view value.now) }
+#[tactic(auto, unfolding(crate::specs::Searches::is_unbuilt))]
+fn is_unbuilt(named: Option<u64>, value: &Value) -> bool
+    ensures { result ≡ is_unbuilt named (view value.now) }
 {
-    is_paged_otherwise(value) || is_after_unbuilt(has_index, value) || is_pit_unbuilt(named, value)
-}
-
-#[tactic(auto, unfolding(crate::specs::Searches::is_paged_otherwise))]
-fn is_paged_otherwise(value: &Value) -> bool
-    ensures { result ≡ is_paged_otherwise (view value.now) }
-{
-    value.get("from").is_some() || value.get("sort").is_some() || value.get("slice").is_some()
-}
-
-#[tactic(auto, unfolding(crate::specs::Searches::is_after_unbuilt))]
-fn is_after_unbuilt(has_index: bool, value: &Value) -> bool
-    ensures { result ≡ is_after_unbuilt has_index (view value.now) }
-{
-    value.get("search_after").is_some() && (has_index || after_of(value).is_none())
+    value.get("slice").is_some() || is_pit_unbuilt(named, value)
 }
 
 #[tactic(auto, unfolding(crate::specs::Searches::is_pit_unbuilt))]
@@ -218,7 +263,15 @@ fn has_form(value: &Value) -> bool
 {
     is_form(
         value,
-        &["query", "size", "pit", "search_after", "track_total_hits"],
+        &[
+            "query",
+            "size",
+            "from",
+            "sort",
+            "pit",
+            "search_after",
+            "track_total_hits",
+        ],
     ) && has_pit_form(value)
         && has_track_form(value)
 }

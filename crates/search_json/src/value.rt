@@ -40,7 +40,8 @@ pub(crate) fn small_of(value: &Value) -> Option<u32>
     }
 }
 
-fn value_of(alloc: Global, value: &Value) -> Result<Option<RowValue>, NoMemory>
+/// A text or a whole number.
+pub(crate) fn value_of(alloc: Global, value: &Value) -> Result<Option<RowValue>, NoMemory>
     ensures { IfOk result (λ found. found ≡ value_of (view value.now)) }
 {
     match value {

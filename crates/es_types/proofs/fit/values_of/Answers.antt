@@ -1,5 +1,5 @@
 use Rattle.std.proofs.Common.{Err, ap, sym, ◌∙◌, arith}
-use Rattle.es_types.proofs.Values.{fit_fails, fit_more, given_at}
+use Rattle.es_types.proofs.Fitted.{fit_fails, fit_more, given_at}
 use Rattle.es_types.proofs.fit.values_of.Goals as goal
 
 -- the first field without a value

@@ -3,7 +3,7 @@ use Rattle.std.proofs.Common.{◌≡◌, map, drop, List}
 use Rattle.es_types.specs.Fields.{fit, fit_from}
 use Rattle.es_types.specs.Fit.{values_named}
 use Rattle.es_types.specs.declared.doc.Member.{Member}
-use Rattle.es_types.proofs.Values.{after}
+use Rattle.es_types.proofs.Fitted.{after}
 use Rattle.es_types.proofs.fit.values_of.Given as goal
 
 abbrev pub invariant-loop-i : goal.invariant-loop-i

@@ -1,32 +1,14 @@
--- One shard after the other.
-use Rattle.std.proofs.Common.{◌≡◌, ◌<◌, ◌≤◌, List, ap, arith, get_or, length, map, sym, ◌∙◌}
-use Rattle.std.proofs.lemmas.List.{get_or-map, length-map}
-use Rattle.es_types.specs.declared.row.Row.{Row}
-use Rattle.list_machine.specs.declared.view.ShardRef.{ShardRef}
+use Rattle.std.proofs.Common.{◌∙◌}
+use Rattle.std.proofs.lemmas.List.{take_rest}
+use Rattle.std.proofs.lemmas.Result.{IfOk-weaker}
 use Rattle.list_machine.specs.Stores.{view_at}
-use Rattle.list_machine.proofs.PlaceLemmas.{adds_shard, bounded_at}
-use Rattle.list_machine.proofs.StoreLemmas.{All-from_map, All-read}
+use Rattle.list_machine.proofs.PageLemmas.{page_is}
 use Rattle.list_machine.proofs.paging.page_of.Goals as goal
 
-pub look_at-requires-clause-few : goal.look_at-requires-clause-few
-look_at-requires-clause-few c =
-    All-read (λ (shard : ShardRef). length shard.rows.now ≤ 2147483647) c.args.view.now.shards.now c.loop-at.at c.shard-item.result (omega (arith, c.loop-at-test.true)) c.shard-item.is
-    (All-from_map (λ (rows : List Row). length rows ≤ 2147483647) (λ (shard : ShardRef). shard.rows.now) c.args.view.now.shards.now c.requires.small.rows)
-
-pub look_at-requires-clause-bounded : goal.look_at-requires-clause-bounded
-look_at-requires-clause-bounded c =
-    bounded_at c.args.view.now c.loop-at.at c.shard-item.result c.requires.bounded (omega (arith, c.loop-at-test.true)) c.shard-item.is
-
-pub loop-at-preserved : goal.loop-at-preserved
-loop-at-preserved c =
-    let shards = c.args.view.now.shards.now in
-    let at = c.loop-at.at in
-    let shard = c.shard-item.result in
-    let rows_of : ShardRef → List Row = λ it. it.rows.now in
-    let less : at < length shards = omega (arith, c.loop-at-test.true) in
-    let there : shard.rows.now ≡ get_or (map rows_of shards) at shard.rows.now =
-    ap rows_of c.shard-item.is ∙ sym (get_or-map rows_of shards at shard shard.rows.now less) in
-    record {
-      is = adds_shard (view_at c.args.view.now) c.args.request.now (map rows_of shards) at shard.rows.now c.loop-at.page c.look_at.new.page (omega (arith, less, length-map shards rows_of)) there c.loop-at.invariant.is c.in_ok-look_at.ensures.adds;
-      few = omega (arith, c.loop-at.invariant.few, c.in_ok-look_at.ensures.few);
-    }
+pub returns : goal.returns
+returns c =
+    let view = view_at c.args.view.now in
+    let request = c.args.request.now in
+    IfOk-weaker c.hits_of.result _ _
+    (λ hits is. is ∙ page_is view request c.args.left.now _ request.from c.min-start.result c.min-end.result c.requires c.min-start.ensures (take_rest c.args.left.now c.min-start.result) c.min-end.ensures)
+    c.hits_of.ensures

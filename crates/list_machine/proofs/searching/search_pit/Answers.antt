@@ -14,9 +14,9 @@ returns-in_default c state =
     let seen : State = record state { moment = c.args.moment } in
     ap (λ found. search_pit seen c.args.request.now found) (context_of-is c.args.number c.args.contexts.now None c.in_default.ensures)
 
-pub search_context-requires : goal.search_context-requires
-search_context-requires c =
-    let all = All-from_map (λ (context : Context). IsSmall context.view) context_seen c.args.contexts.now c.requires in
+pub search_context-requires-clause-small : goal.search_context-requires-clause-small
+search_context-requires-clause-small c =
+    let all = All-from_map (λ (context : Context). IsSmall context.view) context_seen c.args.contexts.now c.requires.small in
     find_All (λ (context : ContextStore). IsSmall (view_seen context)) (λ (context : ContextStore). eqb context.number c.args.number) c.args.contexts.now c.in-Some.context.now all
     (sym c.in-Some.ensures)
 

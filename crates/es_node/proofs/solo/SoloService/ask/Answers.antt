@@ -3,7 +3,7 @@ use Rattle.std.proofs.Common.{subst, arith}
 use Rattle.list_machine.specs.declared.event.Reply.TheVariants.{Spent}
 use Rattle.list_machine.specs.Serving.{Asked, asked}
 use Rattle.es_node.specs.Solo.{Journal, IsRunning}
-use Rattle.es_node.proofs.Journals.{askable_creates, askable_object, spent, stepped, runs_on}
+use Rattle.es_node.proofs.Journals.{askable_bounded, askable_object, spent, stepped, runs_on}
 use Rattle.es_node.proofs.solo.SoloService.ask.Goals as goal
 
 pub returns-then-len-self-clause-asked : goal.returns-then-len-self-clause-asked
@@ -15,8 +15,8 @@ returns-then-len-self-clause-asked c =
 pub advance-requires-clause-object : goal.advance-requires-clause-object
 advance-requires-clause-object c = askable_object _ _ c.args.event c.requires
 
-pub advance-requires-clause-creates : goal.advance-requires-clause-creates
-advance-requires-clause-creates c = askable_creates _ _ c.args.event c.requires
+pub advance-requires-clause-bounded : goal.advance-requires-clause-bounded
+advance-requires-clause-bounded c = askable_bounded _ _ c.args.event c.requires
 
 pub invariant_of-self : goal.invariant_of-self
 invariant_of-self c =

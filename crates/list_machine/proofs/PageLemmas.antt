@@ -1,0 +1,146 @@
+-- The page of an enumeration, and the answer with it.
+use Rattle.std.proofs.Common.{◌≡◌, ℕ, ◌-◌, ◌+◌, ◌<◌, ◌≤◌, Bool, true, false, cond, List, [], ◌∷◌, length, map, min, take, drop, get_or, filter, count_by, sum_by, Option, Some, None, All, sym, refl, ap, ap₂, subst, ◌∙◌, arith}
+use Rattle.std.specs.List.Sorted.{IsPermutation, IsSortedBy}
+use Rattle.std.specs.Ordering.{is_lt}
+use Rattle.std.proofs.lemmas.List.{drop_min, get_or-map, length-map, take_min, take-map, drop-map}
+use Rattle.std.proofs.lemmas.List.Elements.{All-drop, All-filter, All-head, All-tail, All-take, All-weaker}
+use Rattle.std.proofs.lemmas.List.Sorted.{All-permutation, IsPermutation-map}
+use Rattle.std.proofs.lemmas.List.Sums.{sum_by-cons}
+use Rattle.std.proofs.lemmas.Simd.{map-map}
+use Rattle.es_types.specs.declared.bounds.Bounds.{Bounds}
+use Rattle.es_types.specs.declared.row.Row.{Row}
+use Rattle.es_query.specs.declared.query.Query.{Query}
+use Rattle.es_query.specs.Excluded.{excluded}
+use Rattle.es_query.specs.Limits.{bounds_of}
+use Rattle.es_sort.specs.declared.sort.Keys.{Keys}
+use Rattle.es_sort.specs.declared.sort.SortSpec.{SortSpec}
+use Rattle.es_sort.specs.Orders.{compare, is_after}
+use Rattle.list_machine.specs.declared.candidates.Candidate.{Candidate}
+use Rattle.list_machine.specs.declared.search.Answer.{Answer}
+use Rattle.list_machine.specs.declared.search.Hit.{Hit}
+use Rattle.list_machine.specs.declared.search.SearchRequest.{SearchRequest}
+use Rattle.list_machine.specs.declared.view.ShardRef.{ShardRef}
+use Rattle.list_machine.specs.declared.view.ViewRef.{ViewRef}
+use Rattle.list_machine.specs.Paging.{AreCandidates, key_beyond, place_seen, places_seen}
+use Rattle.list_machine.specs.Stores.{AreBounded, IsSmall, view_at}
+use Rattle.list_machine.specs.Views.{HasPlaces, Place, View, answer, comes_before, enumeration, found, hit, is_beyond, key_at, page, phases, skipped}
+use Rattle.list_machine.proofs.Beyond.{filter_all}
+use Rattle.list_machine.proofs.Ordered.{KeyLaws, sorted_is}
+
+-- a sum and a count over a list that a function made
+sum_by-map : {X Y : Type 0} (f : Y → ℕ) (g : X → Y) (xs : List X) → sum_by f (map g xs) ≡ sum_by (λ x. f (g x)) xs
+sum_by-map f g [] = refl
+sum_by-map f g (x ∷ xs) = sum_by-cons f (g x) (map g xs) ∙ ap (λ n. f (g x) + n) (sum_by-map f g xs) ∙ sym (sum_by-cons (λ x. f (g x)) x xs)
+
+count_by-map : {X Y : Type 0} (f : Y → Bool) (g : X → Y) (xs : List X) → count_by f (map g xs) ≡ count_by (λ x. f (g x)) xs
+count_by-map f g xs = sum_by-map (λ y. cond (f y) 1 0) g xs
+
+-- how many shards are skipped, by their bounds
+pub skipped_is : (view : ViewRef) (query : Query) → AreBounded view
+    → count_by (λ (shard : ShardRef). excluded view.mapping.now shard.bounds.now query) view.shards.now ≡ skipped (view_at view) query
+skipped_is view query bounded =
+    let mapping = view.mapping.now in
+    let shards = view.shards.now in
+    let out : Bounds → Bool = λ them. excluded mapping them query in
+    sym (count_by-map out (λ (shard : ShardRef). shard.bounds.now) shards)
+    ∙ ap (count_by out) bounded
+    ∙ count_by-map out (bounds_of mapping) (map (λ (shard : ShardRef). shard.rows.now) shards)
+
+-- no shard of a small view has more rows than it has numbers for
+pub small_has_places : (view : View) → IsSmall view → HasPlaces view
+small_has_places view small =
+    All-weaker (λ (rows : List Row). length rows ≤ 2147483647) (λ (rows : List Row). length rows ≤ 4294967296) (λ rows few. omega (arith, few)) view.shards small.rows
+
+-- keys that do not fall are those of places that do not
+sorted_places : (view : View) (sort : SortSpec) (them : List Candidate) → All (λ (one : Candidate). one.key ≡ key_at view sort (place_seen one)) them
+    → IsSortedBy (λ (a b : Candidate). is_lt (compare sort a.key b.key)) them → IsSortedBy (comes_before view sort) (places_seen them)
+sorted_places view sort [] keyed sorted k d low within = absurd (omega arith)
+sorted_places view sort (first ∷ rest) keyed sorted k d low within =
+    let them = first ∷ rest in
+    let later : k + 1 < length them = omega (arith, length-map them place_seen) in
+    let key_of : (i : ℕ) → i < length them → key_at view sort (get_or (places_seen them) i d) ≡ (get_or them i first).key =
+    λ i less. ap (key_at view sort) (get_or-map place_seen them i first d less) ∙ sym (keyed i first less) in
+    ap₂ (λ a b. is_lt (compare sort a b)) (key_of (k + 1) later) (key_of k (omega arith)) ∙ sorted k first low later
+
+-- the candidates in the order of their keys are those of the enumeration
+pub sorted_candidates : KeyLaws → (view : View) (query : Query) (sort : SortSpec) (old new : List Candidate) → HasPlaces view → AreCandidates view sort (found view query) old
+    → IsPermutation old new → IsSortedBy (λ (a b : Candidate). is_lt (compare sort a.key b.key)) new → AreCandidates view sort (enumeration view query sort) new
+sorted_candidates laws view query sort old new has was same sorted =
+    let keyed = All-permutation (λ (one : Candidate). one.key ≡ key_at view sort (place_seen one)) old new same was.keyed in
+    record {
+      are = sorted_is laws view query sort (places_seen new) has (subst (λ (all : List Place). IsPermutation all (places_seen new)) was.are (IsPermutation-map place_seen old new same)) (sorted_places view sort new keyed sorted);
+      keyed = keyed;
+    }
+
+-- what a function makes of the elements that pass, where another test of what it makes agrees
+map-filter : {X Y : Type 0} (f : X → Y) (p : X → Bool) (q : Y → Bool) (xs : List X) → All (λ x. p x ≡ q (f x)) xs → map f (filter p xs) ≡ filter q (map f xs)
+map-filter f p q [] agree = refl
+map-filter {X} f p q (x ∷ xs) agree =
+    map-cond (p x) x (filter p xs)
+    ∙ ap (λ rest. cond (p x) (f x ∷ rest) rest) (map-filter f p q xs (All-tail (λ it. p it ≡ q (f it)) x xs agree))
+    ∙ ap (λ b. cond b (f x ∷ filter q (map f xs)) (filter q (map f xs))) (All-head (λ it. p it ≡ q (f it)) x xs agree)
+  where
+    map-cond : (b : Bool) (y : X) (ys : List X) → map f (cond b (y ∷ ys) ys) ≡ cond b (f y ∷ map f ys) (map f ys)
+    map-cond true y ys = refl
+    map-cond false y ys = refl
+
+-- a candidate is beyond the values where its place is
+beyond_agrees : (view : View) (sort : SortSpec) (after : Option Keys) (one : Candidate) → one.key ≡ key_at view sort (place_seen one) → key_beyond sort after one.key ≡ is_beyond view sort after (place_seen one)
+beyond_agrees view sort None one keyed = refl
+beyond_agrees view sort (Some after) one keyed = ap (λ key. is_after sort key after) keyed
+
+-- the candidates that are beyond the values
+pub beyond_are : (view : View) (sort : SortSpec) (after : Option Keys) (places : List Place) (them : List Candidate) → AreCandidates view sort places them
+    → AreCandidates view sort (filter (is_beyond view sort after) places) (filter (λ (one : Candidate). key_beyond sort after one.key) them)
+beyond_are view sort after places them is =
+    let keyed : Candidate → Type 0 = λ one. one.key ≡ key_at view sort (place_seen one) in
+    let agree : All (λ (one : Candidate). key_beyond sort after one.key ≡ is_beyond view sort after (place_seen one)) them =
+    All-weaker keyed (λ (one : Candidate). key_beyond sort after one.key ≡ is_beyond view sort after (place_seen one)) (λ one it. beyond_agrees view sort after one it) them is.keyed in
+    record {
+      are = map-filter place_seen (λ (one : Candidate). key_beyond sort after one.key) (is_beyond view sort after) them agree ∙ ap (filter (is_beyond view sort after)) is.are;
+      keyed = All-filter (λ (one : Candidate). key_beyond sort after one.key) keyed them is.keyed;
+    }
+
+-- with no values, all are beyond them
+pub beyond_none : (sort : SortSpec) (after : Option Keys) (them : List Candidate) → after ≡ None → them ≡ filter (λ (one : Candidate). key_beyond sort after one.key) them
+beyond_none sort after them none =
+    sym (filter_all (λ (one : Candidate). key_beyond sort None one.key) them (λ k d less. refl))
+    ∙ ap (λ o. filter (λ (one : Candidate). key_beyond sort o one.key) them) (sym none)
+
+-- some of the candidates behind the first ones
+part_are : (view : View) (sort : SortSpec) (places : List Place) (them : List Candidate) (skip size : ℕ) → AreCandidates view sort places them
+    → AreCandidates view sort (take size (drop skip places)) (take size (drop skip them))
+part_are view sort places them skip size is =
+    let keyed : Candidate → Type 0 = λ one. one.key ≡ key_at view sort (place_seen one) in
+    record {
+      are = sym (take-map place_seen size (drop skip them)) ∙ ap (take size) (sym (drop-map place_seen skip them) ∙ ap (drop skip) is.are);
+      keyed = All-take keyed size (drop skip them) (All-drop keyed skip them is.keyed);
+    }
+
+-- the hits of a part of them are those of the page
+pub page_is : (view : View) (request : SearchRequest) (left rest : List Candidate) (skip start size : ℕ)
+    → AreCandidates view request.sort (filter (is_beyond view request.sort request.after) (enumeration view request.query request.sort)) left
+    → start ≡ min skip (length left) → rest ≡ drop start left → size ≡ min request.size (length rest)
+    → map (λ one. hit view request.sort (place_seen one)) (take size rest) ≡ map (hit view request.sort) (page view request skip)
+page_is view request left rest skip start size is begins cut ends =
+    let behind : rest ≡ drop skip left = cut ∙ ap (λ n. drop n left) begins ∙ drop_min skip left in
+    let part : take size rest ≡ take request.size (drop skip left) = ap (λ n. take n rest) ends ∙ take_min request.size rest ∙ ap (take request.size) behind in
+    ap (map (λ one. hit view request.sort (place_seen one))) part
+    ∙ sym (map-map (hit view request.sort) place_seen (take request.size (drop skip left)))
+    ∙ ap (map (hit view request.sort)) (part_are view request.sort (filter (is_beyond view request.sort request.after) (enumeration view request.query request.sort)) left skip request.size is).are
+
+-- an answer of these parts
+abbrev made : ℕ → ℕ → ℕ → ℕ → List Hit → Answer
+made shards skipped phases total hits =
+    record { counts = record { total = shards; successful = shards; skipped = skipped; failed = 0 }; phases = phases; total = total; hits = hits }
+
+-- an answer from its parts
+pub answer_is : (view : View) (request : SearchRequest) (skip shards some steps total : ℕ) (hits : List Hit)
+    → shards ≡ length view.shards → some ≡ skipped view request.query → steps ≡ phases (shards - some) request.batch
+    → total ≡ length (enumeration view request.query request.sort) → hits ≡ map (hit view request.sort) (page view request skip)
+    → made shards some steps total hits ≡ answer view request skip
+answer_is view request skip shards some steps total hits many skips phased counted shows =
+    ap (λ n. made shards some n total hits) phased
+    ∙ ap (λ n. made n some (phases (n - some) request.batch) total hits) many
+    ∙ ap (λ n. made (length view.shards) n (phases (length view.shards - n) request.batch) total hits) skips
+    ∙ ap₂ (made (length view.shards) (skipped view request.query) (phases (length view.shards - skipped view request.query) request.batch)) counted shows
