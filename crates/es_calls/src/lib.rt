@@ -10,6 +10,8 @@ mod outside;
 #[cfg(test)]
 mod queries;
 #[cfg(test)]
+mod slices;
+#[cfg(test)]
 mod sorts;
 #[cfg(test)]
 mod values;

@@ -1,0 +1,11 @@
+//! Slices: which of a search's places each of several readers takes, so that together they take each place once. `specs/`
+//! says it by the one slice that has a place.
+#![tactic(auto)]
+
+mod cover;
+mod rule;
+mod slice;
+
+pub use cover::{Cover, has};
+pub use rule::part;
+pub use slice::{BadSlice, Slice};
