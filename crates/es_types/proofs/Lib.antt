@@ -2,3 +2,4 @@ pub mod Names
 pub mod Members
 pub mod Fitted
 pub mod Lookups
+pub mod Times

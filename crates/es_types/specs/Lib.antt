@@ -5,3 +5,4 @@ pub mod Fields
 pub mod Fit
 pub mod Homes
 pub mod Values
+pub mod Times

@@ -29,8 +29,8 @@ of_kind kind.Long (Key text) = []
 of_kind kind.Long (Long number) = Long number ∷ []
 of_kind kind.Long Missing = []
 
--- The values that a row of that mapping has of a field: none where the field isn't mapped. Only this says what values a
--- row has.
+-- The values that a row of that mapping has of a field: none where the field isn't mapped. Bounds, which are of rows, read them
+-- by the field's place.
 abbrev pub values_in : List Field → List Value → List ℕ → List Value
 values_in [] values name = []
 values_in (field ∷ fields) [] name = []

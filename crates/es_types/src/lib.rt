@@ -28,4 +28,4 @@ pub use mapping::{Field, FieldKind, Mapping};
 pub use name::{DocId, FieldName, IndexName};
 pub use row::{Op, Row, Value};
 pub use text::{Bytes, Text};
-pub use time::{KeepAlive, Moment};
+pub use time::{BadTime, KeepAlive, Moment};

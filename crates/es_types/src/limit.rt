@@ -9,12 +9,16 @@ pub enum LimitName {
     Shards,
     /// The fields of a mapping: at most 1,000, of names as [`FieldName`](crate::FieldName) takes them.
     Fields,
-    /// A point in time beside an index, or neither of them.
+    /// How many shards make a batch, of which the number of phases is counted: 2 to 1,024.
+    Batch,
+    /// A point in time beside an index, or neither of them, or a slice without a point in time.
     Pit,
     /// Hits to leave out, beside values behind which the page begins.
     From,
     /// How many hits a search leaves out and asks for: at most 10,000 together.
     Window,
+    /// A slice that there can't be: there are 2 to 1,024, numbered from 0.
+    Slice,
     /// What a search sorts by: at most 64 keys, no score, and `_shard_doc` only in a point in time.
     Sort,
 }

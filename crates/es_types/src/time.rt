@@ -1,5 +1,8 @@
-ghost use Rattle.std.specs.Prelude.{◌≡◌, ◌<◌, ◌≤◌, ◌↔◌, max, IsNone, IfSome};
+ghost use Rattle.std.specs.Prelude.{◌≡◌, ◌<◌, ◌≤◌, ◌↔◌, ◌+◌, length, max, min, take, IsNone, IfSome};
+ghost use Rattle.std.specs.Result.{result_ok};
+ghost use Rattle.std.specs.Str.Parse.{digits_value};
 ghost use Rattle.es_types.specs.Name.{last_moment, longest_keep};
+ghost use Rattle.es_types.specs.Times.{digits_in, keep_of, unit_millis};
 
 use crate::{Copied, NoMemory};
 use std::alloc::Global;
@@ -56,6 +59,12 @@ impl Moment {
     }
 }
 
+/// A text that is no time, or one of more than ten days.
+#[derive(Drop)]
+pub struct BadTime;
+
+const LONGEST: u64 = 864000000;
+
 /// How long something is kept, in milliseconds: at most ten days.
 #[derive(Clone, Copy)]
 pub struct KeepAlive(u64);
@@ -81,11 +90,77 @@ impl KeepAlive {
         KeepAlive(60000)
     }
 
+    /// The time that a text says: digits and `d`, `h`, `m`, `s` or `ms` (Elasticsearch's reference, "Time units"), or `0` alone.
+    pub fn read(text: &[u8]) -> Result<KeepAlive, BadTime>
+        ensures { result_ok result ≡ keep_of text.now }
+    {
+        match keep_of(text) {
+            Some(millis) => Ok(KeepAlive(millis)),
+            None => Err(BadTime),
+        }
+    }
+
     pub fn millis(&self) -> u64
         ensures value { result ≡ self.now }
         ensures bound { result ≤ longest_keep }
     {
         self.0
+    }
+}
+
+#[tactic(auto, unfolding(crate::specs::Times::keep_of))]
+fn keep_of(text: &[u8]) -> Option<u64>
+    ensures is { result ≡ keep_of text.now }
+    ensures bound { IfSome result (λ millis. millis ≤ longest_keep) }
+{
+    if text == b"0".as_slice() {
+        return Some(0);
+    }
+    let (number, count) = digits_in(text);
+    if count == 0 {
+        return None;
+    }
+    let unit = unit_millis(&text[count..])?;
+    if number * unit <= LONGEST {
+        Some(number * unit)
+    } else {
+        None
+    }
+}
+
+// The number that the digits at the front write, or one above the longest time where it is greater than that; and how many they are.
+fn digits_in(text: &[u8]) -> (u64, usize)
+    ensures number { result.0 ≡ min (digits_value 10 (take (digits_in text.now) text.now)) (longest_keep + 1) }
+    ensures count { result.1 ≡ digits_in text.now }
+    ensures within { result.1 ≤ length text.now }
+{
+    let mut number = 0;
+    for (i, b) in text.iter().enumerate() {
+        if !b.is_ascii_digit() {
+            return (number, i);
+        }
+        number = (number * 10 + (*b - b'0') as u64).min(LONGEST + 1);
+    }
+    (number, text.len())
+}
+
+fn unit_millis(unit: &[u8]) -> Option<u64>
+    ensures is { result ≡ unit_millis unit.now }
+    ensures some { IfSome result (λ millis. 1 ≤ millis) }
+    ensures bound { IfSome result (λ millis. millis ≤ 86400000) }
+{
+    if unit == b"d".as_slice() {
+        Some(86_400_000)
+    } else if unit == b"h".as_slice() {
+        Some(3_600_000)
+    } else if unit == b"m".as_slice() {
+        Some(60_000)
+    } else if unit == b"s".as_slice() {
+        Some(1_000)
+    } else if unit == b"ms".as_slice() {
+        Some(1)
+    } else {
+        None
     }
 }
 
