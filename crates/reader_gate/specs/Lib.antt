@@ -1,0 +1,4 @@
+pub mod Ends
+pub mod Holds
+pub mod Readers
+pub mod Steps
