@@ -2,13 +2,23 @@
 #![tactic(auto)]
 
 #[cfg(test)]
+mod events;
+#[cfg(test)]
 mod fields;
 #[cfg(test)]
-mod machine;
+mod histories;
+#[cfg(test)]
+mod ids;
+#[cfg(test)]
+mod lent;
 #[cfg(test)]
 mod outside;
 #[cfg(test)]
 mod queries;
+#[cfg(test)]
+mod readers;
+#[cfg(test)]
+mod replies;
 #[cfg(test)]
 mod slices;
 #[cfg(test)]

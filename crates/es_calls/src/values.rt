@@ -96,6 +96,80 @@ fn times_at_the_borders(rt: HostRuntime) -> Result<(), Fail> {
     Ok(())
 }
 
+fn read(text: &str) -> Option<u64> {
+    KeepAlive::read(text.as_bytes())
+        .ok()
+        .map(|keep| keep.millis())
+}
+
+#[test]
+fn times_of_texts(rt: HostRuntime) -> Result<(), Fail> {
+    for (text, millis) in [
+        ("0", 0),
+        ("0ms", 0),
+        ("0d", 0),
+        ("1ms", 1),
+        ("1s", 1000),
+        ("007s", 7000),
+        ("1m", 60000),
+        ("90m", 5400000),
+        ("1h", 3600000),
+        ("240h", 864000000),
+        ("1d", 86400000),
+        ("10d", 864000000),
+        ("864000s", 864000000),
+        ("864000000ms", 864000000),
+    ] {
+        assert_eq!(rt; read(text), Some(millis), "{text}");
+    }
+    for text in [
+        "",
+        "00",
+        "1",
+        "m",
+        "ms",
+        "1x",
+        "1M",
+        "1D",
+        "1mm",
+        "1md",
+        "1ms ",
+        " 1m",
+        "1 m",
+        "-1",
+        "-1m",
+        "+1m",
+        "1.5h",
+        "1h30m",
+        "1micros",
+        "1nanos",
+        "\u{661}m",
+        "864000001ms",
+        "864001s",
+        "14401m",
+        "241h",
+        "11d",
+        "18446744073709551616ms",
+        "213503982335d",
+    ] {
+        assert_eq!(rt; read(text), None, "{text}");
+    }
+    Ok(())
+}
+
+#[test]
+fn times_of_many_digits(rt: HostRuntime) -> Result<(), Fail> {
+    let alloc = rt.alloc();
+    let mut zeros = "0".repeat(alloc, 100)?;
+    assert_eq!(rt; read(zeros.as_str()), None);
+    zeros.push_str("1m")?;
+    assert_eq!(rt; read(zeros.as_str()), Some(60000));
+    let mut nines = "9".repeat(alloc, 100)?;
+    nines.push_str("ms")?;
+    assert_eq!(rt; read(nines.as_str()), None);
+    Ok(())
+}
+
 // Whether there was memory for a copy, which is known to be equal.
 pub(crate) fn copies<T: Copied>(alloc: Global, it: &T) -> bool {
     it.copy(alloc).is_ok()

@@ -297,9 +297,11 @@ fn limit(name: &str) -> Result<LimitName, Fail> {
         "id" => LimitName::Id,
         "shards" => LimitName::Shards,
         "fields" => LimitName::Fields,
+        "batch" => LimitName::Batch,
         "pit" => LimitName::Pit,
         "from" => LimitName::From,
         "window" => LimitName::Window,
+        "slice" => LimitName::Slice,
         "sort" => LimitName::Sort,
         _ => Err("a limit")?,
     })
@@ -312,9 +314,11 @@ limit index -> 400 illegal_argument_exception: limit [index]
 limit id -> 400 illegal_argument_exception: limit [id]
 limit shards -> 400 illegal_argument_exception: limit [shards]
 limit fields -> 400 illegal_argument_exception: limit [fields]
+limit batch -> 400 illegal_argument_exception: limit [batch]
 limit pit -> 400 illegal_argument_exception: limit [pit]
 limit from -> 400 illegal_argument_exception: limit [from]
 limit window -> 400 illegal_argument_exception: limit [window]
+limit slice -> 400 illegal_argument_exception: limit [slice]
 limit sort -> 400 illegal_argument_exception: limit [sort]
 query  -> 400 query_shard_exception: a query value of another kind
 sort  -> 400 query_shard_exception: no mapping for a sort field

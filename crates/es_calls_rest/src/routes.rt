@@ -43,24 +43,31 @@ fn ask_text(alloc: Global, ask: &Ask) -> Result<String, NoMemory> {
         } => "bulk",
         Ask::Refresh { index: _ } => "refresh",
         Ask::OpenPit { index: _, keep: _ } => "open",
-        Ask::Search { target, request: _ } => return target_text(alloc, target),
+        Ask::Search { target, request } => return search_text(alloc, target, request.batch),
     };
     String::from_str(alloc, word)
 }
 
-fn target_text(alloc: Global, target: &Target) -> Result<String, NoMemory> {
-    match target {
-        Target::Index(index) => String::from_str(alloc, index.text().as_str()),
-        Target::Pit { number } => format!(in alloc; "{number}"),
+// What a search looks at, and of how many shards the tops are brought together, where that isn't the usual number.
+fn search_text(alloc: Global, target: &Target, batch: u32) -> Result<String, NoMemory> {
+    let mut text = match target {
+        Target::Index(index) => String::from_str(alloc, index.text().as_str())?,
+        Target::Pit { number } => format!(in alloc; "{number}")?,
+    };
+    if batch != 512 {
+        text.push_str(&format!(in alloc; " by {batch}")?)?;
     }
+    Ok(text)
 }
 
 fn limit_word(name: LimitName) -> &'static str {
     match name {
         LimitName::Index => "index",
+        LimitName::Batch => "batch",
         LimitName::Pit => "pit",
         LimitName::From => "from",
         LimitName::Window => "window",
+        LimitName::Slice => "slice",
         LimitName::Sort => "sort",
         _ => "another limit",
     }
@@ -132,11 +139,30 @@ GET /_t/_search -> not built
 GET /t/_search/ -> not built
 GET /t/_search?pretty [ -> not built
 GET /_search?q=a&pretty=false -> not built
-GET /t/_search?batched_reduce_size=2 -> not built
-GET /_search?batched_reduce_size=2 -> not built
+GET /t/_search?batched_reduce_size=2 -> t by 2
+POST /_search?batched_reduce_size=000001024 {"pit":{"id":"UAAAAAAAAAAB"},"slice":{"id":0,"max":2}} -> 1 by 1024
+GET /t/_search?batched_reduce_size=512 -> t
+GET /t/_search?batched_reduce_size=1 -> batch
+GET /t/_search?batched_reduce_size=0 {"sort":"_score"} -> batch
+GET /t/_search?batched_reduce_size=1025 {"slice":{"id":0,"max":2}} -> batch
+GET /t/_search?batched_reduce_size=999999999 {"x":1} -> bad body
+GET /T/_search?batched_reduce_size=1 -> index
+GET /_search?batched_reduce_size=1 -> batch
+GET /_search?batched_reduce_size=1 [ -> bad body
+GET /_search?batched_reduce_size=1&q=a -> ?q
+GET /t/_search?batched_reduce_size= -> ?batched_reduce_size
+GET /t/_search?batched_reduce_size=1234567890 -> ?batched_reduce_size
+GET /t/_search?batched_reduce_size=%2B2 -> ?batched_reduce_size
+GET /t/_search?batched_reduce_size=x [ -> ?batched_reduce_size
+GET /t/_search?batched_reduce_size=2&batched_reduce_size=2 -> ?batched_reduce_size
+GET /t/_search?q=a&batched_reduce_size=x -> ?q
+GET /t/_refresh?batched_reduce_size=2 -> ?batched_reduce_size
+GET /t/_search {"slice":{"id":0,"max":2},"size":10001} -> pit
+GET /_search {"pit":{"id":"UAAAAAAAAAAB"},"slice":{"id":2,"max":2},"sort":"_score"} -> slice
 GET /t%FF/_search?q=a&scroll=1m -> not built
 GET /_search?scroll=1m -> ?scroll
-GET /t%FF/_search?q=a {"slice":1} -> not built
+GET /t%FF/_search?q=a {"slice":1,"pit":{"keep_alive":"1m"}} -> not built
+GET /t/_search {"slice":1} -> bad body
 GET /t%FF/_search?q=a {"from":1} -> ?index
 GET /T/_search {"sort":"_score"} -> index
 GET /t/_search {"sort":"_score"} -> sort

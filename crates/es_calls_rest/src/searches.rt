@@ -81,6 +81,7 @@ fn word_of(fault: &Failure<BodyFault>) -> &'static str {
         Failure::Is(BodyFault::Limit(LimitName::Pit)) => "pit",
         Failure::Is(BodyFault::Limit(LimitName::From)) => "from",
         Failure::Is(BodyFault::Limit(LimitName::Window)) => "window",
+        Failure::Is(BodyFault::Limit(LimitName::Slice)) => "slice",
         Failure::Is(BodyFault::Limit(LimitName::Sort)) => "sort",
         Failure::Is(BodyFault::Limit(_)) => "another limit",
         Failure::NoMemory => "no memory",
@@ -123,21 +124,24 @@ fn body_text(alloc: Global, body: &SearchBody) -> Result<String, NoMemory> {
     if let Some(after) = &request.after {
         push_after(alloc, &mut found, after)?;
     }
+    if let Some(slice) = &request.slice {
+        found.push_str(&format!(in alloc; " slice {} of {}", slice.id, slice.max)?)?;
+    }
     if let Some(pit) = body.pit {
         found.push_str(&format!(in alloc; " in {pit}")?)?;
     }
     if request.sort.show_place {
         found.push_str(" placed")?;
     }
-    if request.batch != 512 {
+    if request.batch != 7 {
         found.push_str(" another batch")?;
     }
     Ok(found)
 }
 
-// What a body asks for, where three points in time were opened.
+// What a body asks for, where three points in time were opened, and seven shards are brought together at a time.
 fn search_text(alloc: Global, has_index: bool, body: &str) -> Result<String, NoMemory> {
-    match read_search(alloc, body.as_bytes(), has_index, 3) {
+    match read_search(alloc, body.as_bytes(), has_index, 3, 7) {
         Ok(body) => body_text(alloc, &body),
         Err(fault) => String::from_str(alloc, word_of(&fault)),
     }
@@ -185,7 +189,9 @@ const OF_AN_INDEX: &str = r#"
 {"from":10001,"search_after":[],"sort":"_score"} -> from
 {"from":10001,"sort":"_score"} -> window
 {"from":10001,"sort":"_score","x":1} -> shape
-{"slice":{},"size":-1} -> not built
+{"slice":{"id":0,"max":2}} -> pit
+{"slice":{"id":0,"max":1},"from":1,"search_after":[]} -> pit
+{"slice":{},"size":10001} -> shape
 {"search_after":[1]} -> 10 all after 1
 {"pit":{"id":"UAAAAAAAAAAB"}} -> pit
 {"pit":{"id":"UAAAAAAAAAAB"},"size":10001} -> pit
@@ -211,7 +217,25 @@ const OF_A_POINT_IN_TIME: &str = r#"
 {"pit":{"id":"UAAAAAAAAAAB"},"sort":{"_doc":"desc"},"from":7} -> 10 all from 7 by place down in 1 placed
 {"pit":{"id":"UAAAAAAAAAAB"},"sort":["_score"]} -> sort
 {"pit":{"id":"UAAAAAAAAAAB"},"size":10001} -> window
+{"pit":{"id":"UAAAAAAAAAAB"},"slice":{"id":1,"max":3}} -> 10 all slice 1 of 3 in 1 placed
+{"pit":{"id":"UAAAAAAAAAAB"},"slice":{"max":1024,"id":1023},"from":3} -> 10 all from 3 slice 1023 of 1024 in 1 placed
+{"pit":{"id":"UAAAAAAAAAAB"},"slice":{"id":3,"max":3}} -> slice
+{"pit":{"id":"UAAAAAAAAAAB"},"slice":{"id":0,"max":1}} -> slice
+{"pit":{"id":"UAAAAAAAAAAB"},"slice":{"id":0,"max":0}} -> slice
+{"pit":{"id":"UAAAAAAAAAAB"},"slice":{"id":0,"max":1025},"sort":"_score"} -> slice
+{"pit":{"id":"UAAAAAAAAAAB"},"slice":{"id":2147483647,"max":2147483647},"size":10001} -> window
+{"pit":{"id":"UAAAAAAAAAAB"},"slice":{"id":0,"max":1025},"from":1,"search_after":[]} -> from
+{"pit":{"id":"UAAAAAAAAAAB"},"slice":{"id":0}} -> shape
+{"pit":{"id":"UAAAAAAAAAAB"},"slice":{"max":2}} -> shape
+{"pit":{"id":"UAAAAAAAAAAB"},"slice":{"id":0,"max":2,"field":"n"}} -> shape
+{"pit":{"id":"UAAAAAAAAAAB"},"slice":{"id":-1,"max":2}} -> shape
+{"pit":{"id":"UAAAAAAAAAAB"},"slice":{"id":"0","max":2}} -> shape
+{"pit":{"id":"UAAAAAAAAAAB"},"slice":{"id":0,"max":2147483648}} -> shape
+{"pit":{"id":"UAAAAAAAAAAB"},"slice":{"id":0,"max":2.0}} -> shape
+{"pit":{"id":"UAAAAAAAAAAB"},"slice":null} -> shape
+{"pit":{"id":"UAAAAAAAAAAB"},"slice":[0,2]} -> shape
  -> pit
+{"slice":{"id":0,"max":2}} -> pit
 {"size":10001} -> pit
 {"search_after":[1]} -> pit
 {"pit":{"id":"UAAAAAAAAAAD"}} -> 10 all in 3 placed

@@ -9,7 +9,13 @@ mod adapter;
 mod laws;
 mod run;
 #[cfg(test)]
+mod searched;
+#[cfg(test)]
+mod session;
+#[cfg(test)]
 mod sessions;
+#[cfg(test)]
+mod sliced;
 mod solo;
 #[cfg(test)]
 mod sorted;

@@ -1,28 +1,12 @@
 //! Sessions in the order of sorts: worked ones, and all pages of an index by a table of sorts.
-use crate::sessions::{Session, plays, push_request, push_response, read_session, replays};
+use crate::session::{
+    SIX_EQUAL, Session, plays, push_request, push_response, read_session, replays,
+};
 use std::alloc::Global;
 use std::test::Fail;
 
-// Six equal documents in two shards: pages go on behind the places.
+// Pages go on behind the places.
 const EQUAL: &str = r#"
-PUT /t {"settings":{"number_of_shards":2},"mappings":{"properties":{"n":{"type":"long"},"k":{"type":"keyword"}}}}
-200 {"acknowledged":true,"shards_acknowledged":true,"index":"t"}
-PUT /t/_doc/a {"n":7}
-201 {"_index":"t","_id":"a","result":"created","_seq_no":0}
-PUT /t/_doc/b {"n":7}
-201 {"_index":"t","_id":"b","result":"created","_seq_no":0}
-PUT /t/_doc/c {"n":7}
-201 {"_index":"t","_id":"c","result":"created","_seq_no":1}
-PUT /t/_doc/d {"n":7}
-201 {"_index":"t","_id":"d","result":"created","_seq_no":1}
-PUT /t/_doc/e {"n":7}
-201 {"_index":"t","_id":"e","result":"created","_seq_no":2}
-PUT /t/_doc/f {"n":7}
-201 {"_index":"t","_id":"f","result":"created","_seq_no":2}
-POST /t/_refresh
-200 {"_shards":{"total":2,"successful":2,"failed":0}}
-POST /t/_pit?keep_alive=1m
-200 {"id":"UAAAAAAAAAAB"}
 POST /_search {"pit":{"id":"UAAAAAAAAAAB"},"size":2,"sort":["n"]}
 200 {"pit_id":"UAAAAAAAAAAB","took":0,"timed_out":false,"_shards":{"total":2,"successful":2,"skipped":0,"failed":0},"hits":{"total":{"value":6,"relation":"eq"},"max_score":null,"hits":[{"_index":"t","_id":"a","_score":null,"_source":{"n":7},"sort":[7,0]},{"_index":"t","_id":"c","_score":null,"_source":{"n":7},"sort":[7,1]}]}}
 POST /_search {"pit":{"id":"UAAAAAAAAAAB"},"size":2,"sort":["n"],"search_after":[7,1]}
@@ -35,7 +19,9 @@ POST /_search {"pit":{"id":"UAAAAAAAAAAB"},"size":2,"sort":["n"],"search_after":
 
 #[test]
 fn equal_documents(rt: HostRuntime) -> Result<(), Fail> {
-    plays(&rt, rt.alloc(), EQUAL)
+    let alloc = rt.alloc();
+    let text = format!(in alloc; "{SIX_EQUAL}{EQUAL}")?;
+    plays(&rt, alloc, text.as_str())
 }
 
 // A document without the value, and what a search goes on behind.

@@ -8,7 +8,7 @@ use Rattle.es_query.specs.declared.query.Query.{Query, All, Nothing, Term, Range
 use Rattle.es_query.specs.Values.{is_equal, meets}
 use Rattle.es_query.specs.Clauses.{holds}
 
--- Whether a row with these values matches. Only `values_in` says what values a row has.
+-- Whether a row with these values matches.
 abbrev mutual
   pub matches : List Field → List Value → Query → Bool
   matches mapping values All = true

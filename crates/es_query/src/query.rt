@@ -67,7 +67,7 @@ impl Copied for Query {
     }
 }
 
-// The copies call one another directly, and not by the trait, so that they are seen to end.
+// The copies call one another by name: a `copy` of the trait that leads back to its own impl isn't covered yet.
 #[cycle(copying)]
 fn copy_query(query: &Query, alloc: Global) -> Result<Query, NoMemory>
     ensures { IfOk result (λ it. it ≡ query.now) }

@@ -26,6 +26,25 @@ answers_err {A} {B} asked next (fault.TooMany n) h = ap (λ (r : Result A RestFa
 answers_err {A} {B} asked next fault.ShardFull h = ap (λ (r : Result A RestFault). and_then r next) h
 answers_err {A} {B} asked next fault.NoMemory h = tt
 
+-- what is just that answers it
+pub answers_is : {A : Type 0} (r asked : Result A RestFault) → r ≡ asked → Answers r asked
+answers_is (Ok value) asked is = sym is
+answers_is (Err fault.NotBuilt) asked is = sym is
+answers_is (Err (fault.BadParam name)) asked is = sym is
+answers_is (Err fault.BadBody) asked is = sym is
+answers_is (Err (fault.Limit name)) asked is = sym is
+answers_is (Err fault.Spent) asked is = sym is
+answers_is (Err (fault.NoIndex name)) asked is = sym is
+answers_is (Err (fault.Exists name)) asked is = sym is
+answers_is (Err (fault.BadDoc doc)) asked is = sym is
+answers_is (Err fault.BadQuery) asked is = sym is
+answers_is (Err fault.BadSort) asked is = sym is
+answers_is (Err fault.BadAfter) asked is = sym is
+answers_is (Err (fault.NoContext id)) asked is = sym is
+answers_is (Err (fault.TooMany n)) asked is = sym is
+answers_is (Err fault.ShardFull) asked is = sym is
+answers_is (Err fault.NoMemory) asked is = tt
+
 -- the same answer to what is the same
 pub answers_same : {A : Type 0} (asked other : Result A RestFault) (r : Result A RestFault) → other ≡ asked → Answers r asked → Answers r other
 answers_same {A} asked other r same h = subst (λ (a : Result A RestFault). Answers r a) (sym same) h

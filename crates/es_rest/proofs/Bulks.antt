@@ -11,6 +11,7 @@ use Rattle.list_machine.specs.Run.{History}
 use Rattle.list_machine.specs.Serving.{Asked, asked}
 use Rattle.doc_json.specs.declared.bulk.BulkItem.{BulkItem}
 use Rattle.doc_json.specs.declared.fault.BodyFault.{BodyFault}
+use Rattle.doc_json.specs.declared.fault.BodyFault.TheVariants as bad
 use Rattle.doc_json.specs.Bulks.{item_at}
 use Rattle.reply_json.specs.declared.fault.RestFault.{RestFault}
 use Rattle.reply_json.specs.declared.response.BulkLine.{BulkLine}
@@ -19,7 +20,7 @@ use Rattle.reply_json.specs.declared.response.Response.{Response}
 use Rattle.es_rest.specs.declared.bulk.Written.{Written}
 use Rattle.es_rest.specs.Items.{body_fault, changed_and, has_name, changed_by, item_and_more, items_from, items_of, line_and, line_of, lines_of, onto, outcome_of, read_change, with_index, write_and, write_of, write_with, writes_of}
 use Rattle.es_rest.specs.Led.{BulkCut, ItemAsked, ItemCut, ItemDone, ItemRefused, ItemsDone}
-use Rattle.es_rest.specs.Route.{checked}
+use Rattle.es_rest.specs.Route.{Answers, checked}
 use Rattle.es_rest.specs.Scripts.{Part, Script, Talks, each}
 use Rattle.es_rest.specs.Talk.{after_each}
 use Rattle.es_rest.proofs.Scripts.{cut_first, cut_on, talks_on, talks_one}
@@ -82,6 +83,13 @@ pub walk_fails : (index : Option (List ℕ)) (body : List ℕ) (at : ℕ) (fault
 walk_fails index body at fault there w =
     let fuel = more_fuel (length body) at w.most w.within w.room in
     w.left ∙ ap checked (from_place index body at w.most fuel.0 (Err fault) fuel.1 there)
+
+-- such a fault is what is told
+pub fault_told : {A : Type 0} (fault : BodyFault) (asked : Result A RestFault) → asked ≡ Err (body_fault fault) → Answers (Err (body_fault fault)) asked
+fault_told bad.NotBuilt asked is = is
+fault_told bad.NotJson asked is = is
+fault_told bad.Shape asked is = is
+fault_told (bad.Limit name) asked is = is
 
 -- these items stand from a place on
 pub record Ahead (index : Option (List ℕ)) (body : List ℕ) (at : ℕ) (left : List BulkItem) : Type 0 where

@@ -12,3 +12,4 @@ pub mod Objects
 pub mod Queries
 pub mod Asks
 pub mod Limits
+pub mod Numerals

@@ -1,8 +1,10 @@
 -- Which route a path has, and what its parts and its query say (RFC 3986; the URL Standard's forms).
-use Rattle.std.specs.Prelude.{ℕ, zero, suc, ◌+◌, ◌==◌, ◌||◌, ◌&&◌, Bool, true, false, bytes_eq, if◌then◌else◌, List, [], ◌∷◌, map, take, drop, Option, Some, None, option_map, position, Result, Ok, Err, codes}
+use Rattle.std.specs.Prelude.{ℕ, zero, suc, ◌+◌, ◌==◌, ◌||◌, ◌&&◌, not, nat_le, Bool, true, false, bytes_eq, if◌then◌else◌, List, [], ◌∷◌, length, map, take, drop, is_some, Option, Some, None, option_map, position, Result, Ok, Err, codes}
 use Rattle.std.specs.Str.{is_utf8}
 use Rattle.std.specs.Str.Lossy.{utf8_lossy}
-use Rattle.std.specs.List.{list_any}
+use Rattle.std.specs.Char.{is_ascii_digit}
+use Rattle.std.specs.List.{list_all, list_any}
+use Rattle.std.specs.Str.Parse.{digits_value}
 use Rattle.form_urlencoded.specs.Form.{decode, raw_pairs}
 use Rattle.percent_encoding.specs.Percent.{percent_decode}
 use Rattle.matchit.specs.Rows.{RowsOf}
@@ -82,7 +84,7 @@ refresh_value value =
     if bytes_eq value [] || bytes_eq value (codes "true") || bytes_eq value (codes "wait_for") then Some true
     else (if bytes_eq value (codes "false") then Some false else None)
 
-abbrev pub value_or_fault : Option Bool → (Bool → Result Bool RestFault) → RestFault → Result Bool RestFault
+abbrev pub value_or_fault : {A : Type 0} → Option A → (A → Result A RestFault) → RestFault → Result A RestFault
 value_or_fault None more fault = Err fault
 value_or_fault (Some value) more fault = more value
 
@@ -101,4 +103,29 @@ refresh_in taken given [] = Ok (given_or_false given)
 refresh_in taken given (param ∷ params) =
     if taken && bytes_eq param.name (codes "refresh")
     then value_or_fault (unless_given given (refresh_value param.value)) (λ value. refresh_in taken (Some value) params) (BadParam param.name)
+    else Err (BadParam param.name)
+
+-- 1 to 9 decimal digits
+abbrev pub are_digits : List ℕ → Bool
+are_digits text = nat_le 1 (length text) && (nat_le (length text) 9 && list_all is_ascii_digit text)
+
+-- the number that such digits are
+unfoldable pub batch_value : List ℕ → Option ℕ
+batch_value text = if are_digits text then Some (digits_value 10 text) else None
+
+-- how many shards make a batch, where a search doesn't say it
+abbrev pub usual_batch : ℕ
+usual_batch = 512
+
+abbrev pub given_or_usual : Option ℕ → ℕ
+given_or_usual None = usual_batch
+given_or_usual (Some batch) = batch
+
+-- How many shards these parameters say make a batch, where `batched_reduce_size` is taken, at most once: the first that isn't
+-- taken is a fault.
+abbrev pub batch_in : Option ℕ → List Param → Result ℕ RestFault
+batch_in given [] = Ok (given_or_usual given)
+batch_in given (param ∷ params) =
+    if not (is_some given) && bytes_eq param.name (codes "batched_reduce_size")
+    then value_or_fault (batch_value param.value) (λ batch. batch_in (Some batch) params) (BadParam param.name)
     else Err (BadParam param.name)

@@ -1,5 +1,5 @@
 -- What a request asks for, or the first class of refusals that it meets.
-use Rattle.std.specs.Prelude.{◌≡◌, ℕ, ◌&&◌, ◌||◌, ◌==◌, Bool, true, false, not, bytes_eq, if◌then◌else◌, List, [], ◌∷◌, length, Option, Some, None, Result, Ok, Err, codes}
+use Rattle.std.specs.Prelude.{◌≡◌, ℕ, ◌&&◌, ◌||◌, ◌==◌, Bool, true, false, not, nat_le, bytes_eq, if◌then◌else◌, List, [], ◌∷◌, length, Option, Some, None, Result, Ok, Err, codes}
 use Rattle.std.specs.List.{list_all}
 use Rattle.es_types.specs.declared.doc.Doc.{Doc}
 use Rattle.es_types.specs.Name.{is_index_name}
@@ -28,7 +28,7 @@ use Rattle.es_rest.specs.declared.paths.Place.{Place}
 use Rattle.es_rest.specs.declared.paths.Place.TheVariants as place
 use Rattle.es_rest.specs.Items.{body_fault, items_of, named}
 use Rattle.es_rest.specs.declared.params.Param.{Param}
-use Rattle.es_rest.specs.Paths.{decoded, has_param, params_of, part, place_of, refresh_in}
+use Rattle.es_rest.specs.Paths.{batch_in, decoded, has_param, params_of, part, place_of, refresh_in, usual_batch}
 
 abbrev pub and_then : {A B : Type 0} → Result A RestFault → (A → Result B RestFault) → Result B RestFault
 and_then (Ok value) next = next value
@@ -150,42 +150,56 @@ abbrev pub check_form : Result SearchBody BodyFault → Result (Unit {0}) RestFa
 check_form (Err body.NotBuilt) = Err fault.NotBuilt
 check_form other = Ok tt
 
-abbrev pub no_params : Request → Result Bool RestFault
-no_params request = refresh_in false None (params_of request.query)
+abbrev pub batch_asked : Request → Result ℕ RestFault
+batch_asked request = batch_in None (params_of request.query)
 
--- a body that is none comes before a name that is none, and that before a limit of the body
-abbrev pub index_search_of : List ℕ → Result SearchBody BodyFault → Result Ask RestFault
-index_search_of index (Ok asked) = named_index index (ask.Search (target.Index index) asked.request)
-index_search_of index (Err (body.Limit name)) = limit_told index name
-index_search_of index (Err other) = Err (body_fault other)
+abbrev pub is_batch : ℕ → Bool
+is_batch batch = nat_le 2 batch && nat_le batch 1024
+
+-- what a body is read with: the usual number where the request's is none
+abbrev pub batch_used : Result ℕ RestFault → ℕ
+batch_used (Ok batch) = if is_batch batch then batch else usual_batch
+batch_used (Err fault) = usual_batch
+
+-- the index that the path names, where it names one
+abbrev pub index_where : Bool → Request → Result (Option (List ℕ)) RestFault
+index_where has_index request = if has_index then and_then (index_in request) (λ index. Ok (Some index)) else Ok None
+
+abbrev pub index_told : Option (List ℕ) → Result (Option (List ℕ)) RestFault
+index_told None = Ok None
+index_told (Some index) = named_index index (Some index)
+
+-- the limits that are told before those of the body: of the index's name, and then of the batch
+abbrev pub limits_told : Option (List ℕ) → ℕ → Result (Option (List ℕ)) RestFault
+limits_told index batch = and_then (index_told index) (λ index. if is_batch batch then Ok index else Err (fault.Limit limit.Batch))
 
 abbrev pub searched_pit : Option ℕ → SearchRequest → Result Ask RestFault
 searched_pit None request = Err (fault.Limit limit.Pit)
 searched_pit (Some number) request = Ok (ask.Search (target.Pit number) request)
 
-abbrev pub pit_search_of : Result SearchBody BodyFault → Result Ask RestFault
-pit_search_of (Ok asked) = searched_pit asked.pit asked.request
-pit_search_of (Err fault) = Err (body_fault fault)
+abbrev pub target_asked : Option (List ℕ) → SearchBody → Result Ask RestFault
+target_asked (Some index) asked = Ok (ask.Search (target.Index index) asked.request)
+target_asked None asked = searched_pit asked.pit asked.request
+
+-- a body that is none comes before all limits
+abbrev pub search_told : Option (List ℕ) → ℕ → Result SearchBody BodyFault → Result Ask RestFault
+search_told index batch (Ok asked) = and_then (limits_told index batch) (λ index. target_asked index asked)
+search_told index batch (Err (body.Limit name)) = and_then (limits_told index batch) (λ index. Err (fault.Limit name))
+search_told index batch (Err other) = Err (body_fault other)
 
 -- the body is known
-abbrev pub index_search_by : Request → Result SearchBody BodyFault → Result Ask RestFault
-index_search_by request asked =
-    and_then (check_form asked) (λ built. and_then (index_in request) (λ index.
-    and_then (no_params request) (λ none. index_search_of index asked)))
+abbrev pub search_by : Bool → Request → Result SearchBody BodyFault → Result Ask RestFault
+search_by has_index request asked =
+    and_then (check_form asked) (λ built. and_then (index_where has_index request) (λ index.
+    and_then (batch_asked request) (λ batch. search_told index batch asked)))
 
-abbrev pub pit_search_by : Request → Result SearchBody BodyFault → Result Ask RestFault
-pit_search_by request asked = and_then (check_form asked) (λ built. and_then (no_params request) (λ none. pit_search_of asked))
-
-abbrev pub index_search_asked : ℕ → Request → Result Ask RestFault
-index_search_asked newest request = index_search_by request (search_of true newest request.body)
-
-abbrev pub pit_search_asked : ℕ → Request → Result Ask RestFault
-pit_search_asked newest request = pit_search_by request (search_of false newest request.body)
+abbrev pub search_asked : Bool → ℕ → Request → Result Ask RestFault
+search_asked has_index newest request = search_by has_index request (search_of has_index newest (batch_used (batch_asked request)) request.body)
 
 -- the parameters of a search that aren't built yet: `scroll` is one of an index
 abbrev pub has_unbuilt : Bool → List Param → Bool
 has_unbuilt has_index params =
-    has_param (codes "pretty") params || (has_param (codes "batched_reduce_size") params || (has_index && has_param (codes "scroll") params))
+    has_param (codes "pretty") params || (has_index && has_param (codes "scroll") params)
 
 abbrev pub check_search : Bool → Request → Result (Unit {0}) RestFault
 check_search has_index request =
@@ -209,7 +223,7 @@ asked_at_index newest request place.Index = built (is_method (codes "PUT") reque
 asked_at_index newest request place.Doc = doc_asked request
 asked_at_index newest request place.IndexBulk = built (puts_or_posts request) request (index_bulk_asked request)
 asked_at_index newest request place.Refresh = built (gets_or_posts request) request (refresh_asked request)
-asked_at_index newest request place.IndexSearch = and_then (check_search true request) (λ yes. index_search_asked newest request)
+asked_at_index newest request place.IndexSearch = and_then (check_search true request) (λ yes. search_asked true newest request)
 asked_at_index newest request place.OpenPit = opening_asked request
 asked_at_index newest request other = Err fault.NotBuilt
 
@@ -220,7 +234,7 @@ of_index newest request place = if is_own_word (part 1 request.path) then Err fa
 abbrev pub asked_at : ℕ → Request → Option Place → Result Ask RestFault
 asked_at newest request None = Err fault.NotBuilt
 asked_at newest request (Some place.Bulk) = built (puts_or_posts request) request (bulk_asked None request)
-asked_at newest request (Some place.Search) = and_then (check_search false request) (λ yes. pit_search_asked newest request)
+asked_at newest request (Some place.Search) = and_then (check_search false request) (λ yes. search_asked false newest request)
 asked_at newest request (Some place) = of_index newest request place
 
 -- What a request asks for, where points in time up to the newest were opened.

@@ -3,12 +3,12 @@ ghost use Rattle.doc_json.specs.Documents.{doc_of};
 ghost use Rattle.doc_json.specs.Indexes.{index_of};
 ghost use Rattle.es_rest.specs.Items.{body_fault, items_from, named};
 ghost use Rattle.es_rest.specs.Paths.{all_routes, params_of, part, place_of, refresh_in};
-ghost use Rattle.es_rest.specs.Route.{Answers, AsksSound, asked_at, asked_at_index, asked_of, bulk_asked, check_built, create_asked, create_of, doc_asked, gets_or_posts, id_in, index_bulk_asked, index_in, is_blank, is_method, is_opening, is_own_word, limit_told, named_index, no_body, no_params, opening_asked, put_asked, put_of, puts_or_posts, refresh_asked, remove_asked, remove_of, some_body};
+ghost use Rattle.es_rest.specs.Route.{Answers, AsksSound, asked_at, asked_at_index, asked_of, bulk_asked, check_built, create_asked, create_of, doc_asked, gets_or_posts, id_in, index_bulk_asked, index_in, is_blank, is_method, is_opening, is_own_word, limit_told, named_index, no_body, opening_asked, put_asked, put_of, puts_or_posts, refresh_asked, remove_asked, remove_of, some_body};
 
 use crate::items::{body_fault, check_items, named};
 use crate::params::{has_param, params_of, refresh_in};
 use crate::paths::{Place, decoded, part, place_of, routes};
-use crate::search::{check_search, index_search_asked, pit_search_asked};
+use crate::search::{check_search, search_asked};
 use doc_json::{BodyFault, IndexSpec, read_doc, read_index};
 use es_types::{Bytes, Copied, Doc, DocId, Fail, IndexName, KeepAlive, LimitName, Text};
 use http_wire::Request;
@@ -108,13 +108,6 @@ fn refresh_of(alloc: Global, taken: bool, request: &Request) -> Result<bool, Res
     refresh_in(alloc, taken, None, &params)
 }
 
-/// No parameter is taken.
-pub fn no_params(alloc: Global, request: &Request) -> Result<bool, RestFault>
-    ensures { Answers result (no_params request.now) }
-{
-    refresh_of(alloc, false, request)
-}
-
 fn is_blank(bytes: &[u8]) -> bool
     ensures { result ≡ is_blank bytes.now }
 {
@@ -122,7 +115,7 @@ fn is_blank(bytes: &[u8]) -> bool
 }
 
 fn no_body(request: &Request) -> Result<bool, RestFault>
-    ensures { Answers result (no_body request.now) }
+    ensures { result ≡ no_body request.now }
 {
     if is_blank(request.body.as_slice()) {
         Ok(true)
@@ -133,7 +126,7 @@ fn no_body(request: &Request) -> Result<bool, RestFault>
 
 // A bulk has a body.
 fn some_body(request: &Request) -> Result<bool, RestFault>
-    ensures { Answers result (some_body request.now) }
+    ensures { result ≡ some_body request.now }
 {
     if request.body.as_slice().is_empty() {
         Err(RestFault::BadBody)
@@ -142,8 +135,8 @@ fn some_body(request: &Request) -> Result<bool, RestFault>
     }
 }
 
-pub fn named_index(index: Text) -> Result<IndexName, RestFault>
-    ensures { Answers result (named_index index index) }
+fn named_index(index: Text) -> Result<IndexName, RestFault>
+    ensures { result ≡ named_index index index }
 {
     match IndexName::make(index) {
         Ok(index) => Ok(index),
@@ -151,8 +144,8 @@ pub fn named_index(index: Text) -> Result<IndexName, RestFault>
     }
 }
 
-/// A limit that a body breaks is told where the index's name is one.
-pub fn limit_told(index: Text, name: LimitName) -> Result<Ask, RestFault>
+// A limit that a body breaks is told where the index's name is one.
+fn limit_told(index: Text, name: LimitName) -> Result<Ask, RestFault>
     ensures { result ≡ limit_told index name }
 {
     match IndexName::make(index) {
@@ -221,7 +214,7 @@ fn put_asked(alloc: Global, request: &Request) -> Result<Ask, RestFault>
 }
 
 fn remove_of(index: Text, id: Text, refresh: bool) -> Result<Ask, RestFault>
-    ensures answer { Answers result (remove_of index id refresh) }
+    ensures answer { result ≡ remove_of index id refresh }
     ensures sound { IfOk result AsksSound }
 {
     let (index, id) = named(index, id)?;
@@ -342,7 +335,7 @@ fn indexed(alloc: Global, newest: u64, request: &Request, place: Place) -> Resul
         }
         Place::IndexSearch => {
             check_search(alloc, true, request)?;
-            index_search_asked(alloc, newest, request)
+            search_asked(alloc, true, newest, request)
         }
         Place::OpenPit => opening_asked(alloc, request),
         _ => Err(RestFault::NotBuilt),
@@ -366,7 +359,7 @@ fn asked_at(
         }
         Some(Place::Search) => {
             check_search(alloc, false, request)?;
-            pit_search_asked(alloc, newest, request)
+            search_asked(alloc, false, newest, request)
         }
         Some(place) => {
             if is_own_word(request) {

@@ -25,7 +25,7 @@ pub fn body_fault(fault: BodyFault) -> RestFault
 
 /// The name of an index and the id of a document, or the first of them that breaks its rule.
 pub fn named(index: Text, id: Text) -> Result<(IndexName, DocId), RestFault>
-    ensures { Answers result (named index id (index, id)) }
+    ensures { result ≡ named index id (index, id) }
 {
     match IndexName::make(index) {
         Ok(index) => match DocId::make(id) {

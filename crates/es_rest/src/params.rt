@@ -1,11 +1,15 @@
 ghost use Rattle.std.specs.Prelude.{◌≡◌, IfOk};
-ghost use Rattle.es_rest.specs.Paths.{has_param, params_of, refresh_in, refresh_value, unless_given};
+ghost use Rattle.es_rest.specs.Paths.{are_digits, batch_in, batch_value, has_param, params_of, refresh_in, refresh_value, unless_given};
 ghost use Rattle.es_rest.specs.Route.{Answers};
 
+use doc_json::all_digits;
 use es_types::{Copied, NoMemory, Text};
 use form_urlencoded::parse;
 use reply_json::RestFault;
 use std::alloc::Global;
+
+/// How many shards make a batch, where a search doesn't say it.
+pub const USUAL_BATCH: u32 = 512;
 
 /// A parameter of a query, decoded.
 #[derive(Drop)]
@@ -72,6 +76,41 @@ pub fn refresh_in(
     if taken && param.name.as_str() == "refresh" {
         if let Some(value) = unless_given(given, refresh_value(param.value.as_str())) {
             return refresh_in(alloc, taken, Some(value), rest);
+        }
+    }
+    Err(RestFault::BadParam(param.name.copy(alloc)?))
+}
+
+fn are_digits(text: &[u8]) -> bool
+    ensures { result ≡ are_digits text.now }
+{
+    !text.is_empty() && text.len() <= 9 && all_digits(text)
+}
+
+#[tactic(auto, unfolding(crate::specs::Paths::batch_value))]
+fn batch_value(text: &str) -> Option<u32>
+    ensures { result ≡ batch_value text.now }
+{
+    if !are_digits(text.as_bytes()) {
+        return None;
+    }
+    match text.parse::<u32>() {
+        Ok(n) => Some(n),
+        Err(_) => None,
+    }
+}
+
+/// How many shards the parameters say make a batch: `batched_reduce_size` is taken, at most once and if not `given` before. The
+/// first that isn't taken is a fault.
+pub fn batch_in(alloc: Global, given: Option<u32>, params: &[Param]) -> Result<u32, RestFault>
+    ensures { Answers result (batch_in given params.now) }
+{
+    let [param, rest @ ..] = params else {
+        return Ok(given.unwrap_or(USUAL_BATCH));
+    };
+    if given.is_none() && param.name.as_str() == "batched_reduce_size" {
+        if let Some(batch) = batch_value(param.value.as_str()) {
+            return batch_in(alloc, Some(batch), rest);
         }
     }
     Err(RestFault::BadParam(param.name.copy(alloc)?))

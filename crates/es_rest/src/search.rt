@@ -1,16 +1,15 @@
-ghost use Rattle.std.specs.Prelude.{◌≡◌, false, true, IfOk};
-ghost use Rattle.list_machine.specs.Run.{IsWithinLimits};
+ghost use Rattle.std.specs.Prelude.{◌≡◌, ◌≤◌, false, IfOk};
 ghost use Rattle.search_json.specs.Searches.{search_of};
-ghost use Rattle.es_rest.specs.Paths.{params_of};
-ghost use Rattle.es_rest.specs.Route.{Answers, AreWithinLimits, AsksSound, check_form, check_search, has_unbuilt, index_search_asked, index_search_by, index_search_of, named_index, pit_search_asked, pit_search_by, pit_search_of};
+ghost use Rattle.es_rest.specs.Route.{Answers, AreWithinLimits, AsksSound, batch_asked, batch_used, check_form, check_search, has_unbuilt, index_told, index_where, is_batch, limits_told, search_asked, search_by, search_told, target_asked};
+ghost use Rattle.list_machine.specs.Run.{IsWithinLimits};
 
-use crate::ask::{Ask, gets_or_posts, index_in, limit_told, no_params};
+use crate::ask::{Ask, gets_or_posts, index_in};
 use crate::items::body_fault;
-use crate::params::{Param, has_param, params_of};
+use crate::params::{Param, USUAL_BATCH, batch_in, has_param, params_of};
 use doc_json::BodyFault;
 use es_types::{Fail, IndexName, LimitName, NoMemory, Text};
 use http_wire::Request;
-use list_machine::{SearchRequest, Target};
+use list_machine::Target;
 use reply_json::RestFault;
 use search_json::{SearchBody, read_search};
 use std::alloc::Global;
@@ -19,9 +18,7 @@ use std::alloc::Global;
 fn has_unbuilt(has_index: bool, params: &[Param]) -> bool
     ensures { result ≡ has_unbuilt has_index params.now }
 {
-    has_param("pretty", params)
-        || has_param("batched_reduce_size", params)
-        || (has_index && has_param("scroll", params))
+    has_param("pretty", params) || (has_index && has_param("scroll", params))
 }
 
 /// A method or a parameter of a search that isn't built yet.
@@ -38,17 +35,47 @@ pub fn check_search(alloc: Global, has_index: bool, request: &Request) -> Result
     Ok(())
 }
 
+// How many shards the query says make a batch.
+fn batch_asked(alloc: Global, request: &Request) -> Result<u32, RestFault>
+    ensures { Answers result (batch_asked request.now) }
+{
+    let params = params_of(alloc, request.query.as_slice())?;
+    batch_in(alloc, None, &params)
+}
+
+fn is_batch(batch: u32) -> bool
+    ensures { result ≡ is_batch batch }
+{
+    2 <= batch && batch <= 1024
+}
+
+// The number that the body is read with: the usual one where the query's is none.
+fn batch_used(alloc: Global, request: &Request) -> Result<u32, NoMemory>
+    ensures is { IfOk result (λ batch. batch ≡ batch_used (batch_asked request.now)) }
+    ensures least { IfOk result (λ batch. 2 ≤ batch) }
+    ensures most { IfOk result (λ batch. batch ≤ 1024) }
+{
+    match batch_asked(alloc, request) {
+        Ok(batch) if is_batch(batch) => Ok(batch),
+        Err(RestFault::NoMemory) => Err(NoMemory),
+        _ => Ok(USUAL_BATCH),
+    }
+}
+
 // What the body of a search asks for, or its fault.
 fn body_of(
     alloc: Global,
     has_index: bool,
     newest: u64,
+    batch: u32,
     request: &Request,
 ) -> Result<Result<SearchBody, BodyFault>, NoMemory>
-    ensures is { IfOk result (λ asked. asked ≡ search_of has_index newest request.now.body) }
+    requires least { 2 ≤ batch }
+    requires most { batch ≤ 1024 }
+    ensures is { IfOk result (λ asked. asked ≡ search_of has_index newest batch request.now.body) }
     ensures within { IfOk result AreWithinLimits }
 {
-    match read_search(alloc, request.body.as_slice(), has_index, newest) {
+    match read_search(alloc, request.body.as_slice(), has_index, newest, batch) {
         Ok(asked) => Ok(Ok(asked)),
         Err(Fail::Is(fault)) => Ok(Err(fault)),
         Err(Fail::NoMemory) => Err(NoMemory),
@@ -57,7 +84,7 @@ fn body_of(
 
 // A form of the body that isn't built goes before all other refusals.
 fn check_form(asked: &Result<SearchBody, BodyFault>) -> Result<(), RestFault>
-    ensures { Answers result (check_form asked.now) }
+    ensures { result ≡ check_form asked.now }
 {
     match asked {
         Err(BodyFault::NotBuilt) => Err(RestFault::NotBuilt),
@@ -65,93 +92,110 @@ fn check_form(asked: &Result<SearchBody, BodyFault>) -> Result<(), RestFault>
     }
 }
 
-// The search of an index, where its name is one.
-fn searched_index(index: Text, request: SearchRequest) -> Result<Ask, RestFault>
-    requires { IsWithinLimits request }
-    ensures answer { result ≡ named_index index (Ask.Search (Target.Index index) request) }
+// The index that the path names, where it names one.
+fn index_where(alloc: Global, has_index: bool, request: &Request) -> Result<Option<Text>, RestFault>
+    ensures { Answers result (index_where has_index request.now) }
+{
+    if !has_index {
+        return Ok(None);
+    }
+    Ok(Some(index_in(alloc, request)?))
+}
+
+fn index_told(index: Option<Text>) -> Result<Option<IndexName>, RestFault>
+    ensures { result ≡ index_told index }
+{
+    match index {
+        Some(index) => match IndexName::make(index) {
+            Ok(index) => Ok(Some(index)),
+            Err(_) => Err(RestFault::Limit(LimitName::Index)),
+        },
+        None => Ok(None),
+    }
+}
+
+// The index, where its name is one, and the number of shards may be asked.
+fn limits_told(index: Option<Text>, batch: u32) -> Result<Option<IndexName>, RestFault>
+    ensures { result ≡ limits_told index batch }
+{
+    let index = index_told(index)?;
+    if is_batch(batch) {
+        Ok(index)
+    } else {
+        Err(RestFault::Limit(LimitName::Batch))
+    }
+}
+
+fn target_asked(index: Option<IndexName>, asked: SearchBody) -> Result<Ask, RestFault>
+    requires { IsWithinLimits asked.request }
+    ensures answer { result ≡ target_asked index asked }
     ensures sound { IfOk result AsksSound }
 {
-    match IndexName::make(index) {
-        Ok(index) => Ok(Ask::Search {
+    let SearchBody { request, pit } = asked;
+    if let Some(index) = index {
+        return Ok(Ask::Search {
             target: Target::Index(index),
             request,
+        });
+    }
+    match pit {
+        Some(number) => Ok(Ask::Search {
+            target: Target::Pit { number },
+            request,
         }),
-        Err(_) => Err(RestFault::Limit(LimitName::Index)),
+        None => Err(RestFault::Limit(LimitName::Pit)),
     }
 }
 
-fn index_search_of(index: Text, asked: Result<SearchBody, BodyFault>) -> Result<Ask, RestFault>
-    requires { AreWithinLimits asked }
-    ensures answer { Answers result (index_search_of index asked) }
-    ensures sound { IfOk result AsksSound }
-{
-    match asked {
-        Ok(asked) => searched_index(index, asked.request),
-        Err(BodyFault::Limit(name)) => limit_told(index, name),
-        Err(fault) => Err(body_fault(fault)),
-    }
-}
-
-fn index_search_by(
-    alloc: Global,
-    request: &Request,
+fn search_told(
+    index: Option<Text>,
+    batch: u32,
     asked: Result<SearchBody, BodyFault>,
 ) -> Result<Ask, RestFault>
     requires { AreWithinLimits asked }
-    ensures answer { Answers result (index_search_by request.now asked) }
-    ensures sound { IfOk result AsksSound }
-{
-    check_form(&asked)?;
-    let index = index_in(alloc, request)?;
-    let _ = no_params(alloc, request)?;
-    index_search_of(index, asked)
-}
-
-/// What a search of an index asks for.
-pub fn index_search_asked(alloc: Global, newest: u64, request: &Request) -> Result<Ask, RestFault>
-    ensures answer { Answers result (index_search_asked newest request.now) }
-    ensures sound { IfOk result AsksSound }
-{
-    let asked = body_of(alloc, true, newest, request)?;
-    index_search_by(alloc, request, asked)
-}
-
-fn pit_search_of(asked: Result<SearchBody, BodyFault>) -> Result<Ask, RestFault>
-    requires { AreWithinLimits asked }
-    ensures answer { Answers result (pit_search_of asked) }
+    ensures answer { result ≡ search_told index batch asked }
     ensures sound { IfOk result AsksSound }
 {
     match asked {
-        Ok(SearchBody { request, pit }) => match pit {
-            Some(number) => Ok(Ask::Search {
-                target: Target::Pit { number },
-                request,
-            }),
-            None => Err(RestFault::Limit(LimitName::Pit)),
+        Ok(asked) => match limits_told(index, batch) {
+            Ok(index) => target_asked(index, asked),
+            Err(fault) => Err(fault),
+        },
+        Err(BodyFault::Limit(name)) => match limits_told(index, batch) {
+            Ok(_) => Err(RestFault::Limit(name)),
+            Err(fault) => Err(fault),
         },
         Err(fault) => Err(body_fault(fault)),
     }
 }
 
-fn pit_search_by(
+fn search_by(
     alloc: Global,
+    has_index: bool,
     request: &Request,
     asked: Result<SearchBody, BodyFault>,
 ) -> Result<Ask, RestFault>
     requires { AreWithinLimits asked }
-    ensures answer { Answers result (pit_search_by request.now asked) }
+    ensures answer { Answers result (search_by has_index request.now asked) }
     ensures sound { IfOk result AsksSound }
 {
     check_form(&asked)?;
-    let _ = no_params(alloc, request)?;
-    pit_search_of(asked)
+    let index = index_where(alloc, has_index, request)?;
+    let batch = batch_asked(alloc, request)?;
+    search_told(index, batch, asked)
 }
 
-/// What a search that its path names no index for asks for.
-pub fn pit_search_asked(alloc: Global, newest: u64, request: &Request) -> Result<Ask, RestFault>
-    ensures answer { Answers result (pit_search_asked newest request.now) }
+/// What a search asks for; `has_index` says that its path names an index.
+pub fn search_asked(
+    alloc: Global,
+    has_index: bool,
+    newest: u64,
+    request: &Request,
+) -> Result<Ask, RestFault>
+    ensures answer { Answers result (search_asked has_index newest request.now) }
     ensures sound { IfOk result AsksSound }
 {
-    let asked = body_of(alloc, false, newest, request)?;
-    pit_search_by(alloc, request, asked)
+    let batch = batch_used(alloc, request)?;
+    let asked = body_of(alloc, has_index, newest, batch, request)?;
+    search_by(alloc, has_index, request, asked)
 }

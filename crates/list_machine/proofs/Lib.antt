@@ -15,6 +15,7 @@ pub mod Runs
 pub mod Contexts
 pub mod PlacesInOrder
 pub mod Shown
+pub mod Slicing
 pub mod Beyond
 pub mod Turns
 pub mod Sealed

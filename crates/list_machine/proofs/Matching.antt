@@ -1,5 +1,5 @@
--- The places of a view, and how the rows that match are added to a list.
-use Rattle.std.proofs.Common.{◌≡◌, ℕ, ◌+◌, ◌*◌, ◌<◌, Bool, cond, List, [], ◌∷◌, ◌++◌, length, take, get_or, map, suc, All, sym, refl, ap, subst, ◌∙◌, arith, append-nil, append_assoc}
+-- The places of a view, and how the rows that are wanted are added to a list.
+use Rattle.std.proofs.Common.{◌≡◌, ℕ, ◌+◌, ◌<◌, Bool, true, false, cond, ◌&&◌, List, [], ◌∷◌, ◌++◌, length, take, get_or, map, filter, suc, All, Option, sym, refl, ap, subst, ◌∙◌, arith, append-nil, append_assoc}
 use Rattle.std.specs.Prelude.{IsFalse}
 use Rattle.std.proofs.lemmas.List.{get_or-map, take_more, length-take-le, length-map}
 use Rattle.std.proofs.lemmas.List.Elements.{filter-append, All-head, All-tail}
@@ -8,88 +8,101 @@ use Rattle.es_query.specs.declared.query.Query.{Query}
 use Rattle.es_query.specs.Limits.{bounds_of}
 use Rattle.es_query.specs.Matches.{matches}
 use Rattle.es_sort.specs.declared.sort.SortSpec.{SortSpec}
+use Rattle.slice_rule.specs.declared.slice.Slice.{Slice}
 use Rattle.list_machine.specs.declared.candidates.Candidate.{Candidate}
 use Rattle.list_machine.specs.declared.view.ShardRef.{ShardRef}
 use Rattle.list_machine.specs.declared.view.ViewRef.{ViewRef}
-use Rattle.list_machine.specs.Paging.{AddsMatching, AreCandidates}
+use Rattle.list_machine.specs.Paging.{AddsPassing, AreCandidates}
 use Rattle.list_machine.specs.Stores.{AreBounded}
-use Rattle.list_machine.specs.Views.{View, Place, matching, places_from, places_of_shard}
+use Rattle.list_machine.specs.Views.{View, Place, is_had, is_wanted, places_from, places_of_shard}
 
 -- one more row has its place behind the others
-places_of_shard-push : (number : ℕ) (rows : List Row) (row : Row)
-    → places_of_shard number (rows ++ row ∷ []) ≡ places_of_shard number rows ++ record { number = number + length rows; row = row } ∷ []
-places_of_shard-push number [] row = ap (λ n. record { number = n; row = row } ∷ []) (omega arith)
-places_of_shard-push number (first ∷ rows) row =
-    ap (λ places. record { number = number; row = first } ∷ places)
-    (places_of_shard-push (number + 1) rows row
-    ∙ ap (λ n. places_of_shard (number + 1) rows ++ record { number = n; row = row } ∷ []) (omega arith))
+places_of_shard-push : (shard rank : ℕ) (rows : List Row) (row : Row)
+    → places_of_shard shard rank (rows ++ row ∷ []) ≡ places_of_shard shard rank rows ++ record { shard = shard; rank = rank + length rows; row = row } ∷ []
+places_of_shard-push shard rank [] row = ap (λ n. record { shard = shard; rank = n; row = row } ∷ []) (omega arith)
+places_of_shard-push shard rank (first ∷ rows) row =
+    ap (λ places. record { shard = shard; rank = rank; row = first } ∷ places)
+    (places_of_shard-push shard (rank + 1) rows row
+    ∙ ap (λ n. places_of_shard shard (rank + 1) rows ++ record { shard = shard; rank = n; row = row } ∷ []) (omega arith))
 
 -- one more shard has its places behind those of the others
 places_from-push : (shard : ℕ) (shards : List (List Row)) (rows : List Row)
-    → places_from shard (shards ++ rows ∷ []) ≡ places_from shard shards ++ places_of_shard ((shard + length shards) * 4294967296) rows
+    → places_from shard (shards ++ rows ∷ []) ≡ places_from shard shards ++ places_of_shard (shard + length shards) 0 rows
 places_from-push shard [] rows =
-    append-nil (places_of_shard (shard * 4294967296) rows)
-    ∙ ap (λ n. places_of_shard (n * 4294967296) rows) (omega arith)
+    append-nil (places_of_shard shard 0 rows)
+    ∙ ap (λ n. places_of_shard n 0 rows) (omega arith)
 places_from-push shard (first ∷ shards) rows =
     let count : (shard + 1) + length shards ≡ shard + suc (length shards) = omega arith in
-    ap (λ places. places_of_shard (shard * 4294967296) first ++ places) (places_from-push (shard + 1) shards rows)
-    ∙ sym (append_assoc (places_of_shard (shard * 4294967296) first) (places_from (shard + 1) shards) (places_of_shard (((shard + 1) + length shards) * 4294967296) rows))
-    ∙ ap (λ n. (places_of_shard (shard * 4294967296) first ++ places_from (shard + 1) shards) ++ places_of_shard (n * 4294967296) rows) count
+    ap (λ places. places_of_shard shard 0 first ++ places) (places_from-push (shard + 1) shards rows)
+    ∙ sym (append_assoc (places_of_shard shard 0 first) (places_from (shard + 1) shards) (places_of_shard ((shard + 1) + length shards) 0 rows))
+    ∙ ap (λ n. (places_of_shard shard 0 first ++ places_from (shard + 1) shards) ++ places_of_shard n 0 rows) count
 
--- whether a place's row matches
-abbrev found_at : View → Query → Place → Bool
-found_at view query place = matches view.mapping place.row.values query
-
--- what matches of places behind places
-matching-append : (view : View) (query : Query) (front rest : List Place) → matching view query (front ++ rest) ≡ matching view query front ++ matching view query rest
-matching-append view query front rest = filter-append (found_at view query) front rest
-
--- places of which none matches add nothing
-pub places_miss : (view : View) (query : Query) (sort : SortSpec) (places : List Place) (them : List Candidate) → matching view query places ≡ [] → AddsMatching view query sort places them them
-places_miss view query sort places them none before is =
+-- where none of the places passes, nothing is added
+pub places_miss : (view : View) (sort : SortSpec) (passes : Place → Bool) (places : List Place) (them : List Candidate) → filter passes places ≡ [] → AddsPassing view sort passes places them them
+places_miss view sort passes places them none before is =
     subst (λ (all : List Place). AreCandidates view sort all them) (sym (ap (λ more. before ++ more) none ∙ append-nil before)) is
 
 -- places behind places
-adds_then : (view : View) (query : Query) (sort : SortSpec) (front rest : List Place) (old them new : List Candidate) → AddsMatching view query sort front old them → AddsMatching view query sort rest them new → AddsMatching view query sort (front ++ rest) old new
-adds_then view query sort front rest old them new first then before is =
-    let whole : (before ++ matching view query front) ++ matching view query rest ≡ before ++ matching view query (front ++ rest) =
-    append_assoc before (matching view query front) (matching view query rest) ∙ ap (λ more. before ++ more) (sym (matching-append view query front rest)) in
-    subst (λ (all : List Place). AreCandidates view sort all new) whole (then (before ++ matching view query front) (first before is))
+adds_then : (view : View) (sort : SortSpec) (passes : Place → Bool) (front rest : List Place) (old them new : List Candidate)
+    → AddsPassing view sort passes front old them → AddsPassing view sort passes rest them new → AddsPassing view sort passes (front ++ rest) old new
+adds_then view sort passes front rest old them new first then before is =
+    let whole : (before ++ filter passes front) ++ filter passes rest ≡ before ++ filter passes (front ++ rest) =
+    append_assoc before (filter passes front) (filter passes rest) ∙ ap (λ more. before ++ more) (sym (filter-append passes front rest)) in
+    subst (λ (all : List Place). AreCandidates view sort all new) whole (then (before ++ filter passes front) (first before is))
 
 -- the step of a loop over the rows of a shard
-pub adds_row : (view : View) (query : Query) (sort : SortSpec) (first : ℕ) (rows : List Row) (i : ℕ) (row : Row) (old them new : List Candidate) → i < length rows → row ≡ get_or rows i row
-    → AddsMatching view query sort (places_of_shard first (take i rows)) old them → AddsMatching view query sort (record { number = first + i; row = row } ∷ []) them new
-    → AddsMatching view query sort (places_of_shard first (take (i + 1) rows)) old new
-adds_row view query sort first rows i row old them new less is adds next =
-    let place : Place = record { number = first + i; row = row } in
-    let places : List Place = places_of_shard first (take i rows) in
-    let more : places_of_shard first (take (i + 1) rows) ≡ places ++ place ∷ [] =
-    ap (places_of_shard first) (take_more rows i row less ∙ ap (λ it. take i rows ++ it ∷ []) (sym is))
-    ∙ places_of_shard-push first (take i rows) row
-    ∙ ap (λ n. places ++ record { number = first + n; row = row } ∷ []) (length-take-le i rows (omega arith)) in
-    subst (λ (all : List Place). AddsMatching view query sort all old new) (sym more) (adds_then view query sort places (place ∷ []) old them new adds next)
+pub adds_row : (view : View) (sort : SortSpec) (passes : Place → Bool) (shard : ℕ) (rows : List Row) (i : ℕ) (row : Row) (old them new : List Candidate) → i < length rows → row ≡ get_or rows i row
+    → AddsPassing view sort passes (places_of_shard shard 0 (take i rows)) old them → AddsPassing view sort passes (record { shard = shard; rank = i; row = row } ∷ []) them new
+    → AddsPassing view sort passes (places_of_shard shard 0 (take (i + 1) rows)) old new
+adds_row view sort passes shard rows i row old them new less is adds next =
+    let place : Place = record { shard = shard; rank = i; row = row } in
+    let places : List Place = places_of_shard shard 0 (take i rows) in
+    let more : places_of_shard shard 0 (take (i + 1) rows) ≡ places ++ place ∷ [] =
+    ap (places_of_shard shard 0) (take_more rows i row less ∙ ap (λ it. take i rows ++ it ∷ []) (sym is))
+    ∙ places_of_shard-push shard 0 (take i rows) row
+    ∙ ap (λ n. places ++ record { shard = shard; rank = n; row = row } ∷ []) (omega (arith, length-take-le i rows (omega arith))) in
+    subst (λ (all : List Place). AddsPassing view sort passes all old new) (sym more) (adds_then view sort passes places (place ∷ []) old them new adds next)
 
 -- the step of a loop over the shards
-pub adds_shard : (view : View) (query : Query) (sort : SortSpec) (shards : List (List Row)) (i : ℕ) (rows : List Row) (old new : List Candidate) → i < length shards → rows ≡ get_or shards i rows
-    → AreCandidates view sort (matching view query (places_from 0 (take i shards))) old → AddsMatching view query sort (places_of_shard (i * 4294967296) rows) old new
-    → AreCandidates view sort (matching view query (places_from 0 (take (i + 1) shards))) new
-adds_shard view query sort shards i rows old new less is was adds =
+pub adds_shard : (view : View) (sort : SortSpec) (passes : Place → Bool) (shards : List (List Row)) (i : ℕ) (rows : List Row) (old new : List Candidate) → i < length shards → rows ≡ get_or shards i rows
+    → AreCandidates view sort (filter passes (places_from 0 (take i shards))) old → AddsPassing view sort passes (places_of_shard i 0 rows) old new
+    → AreCandidates view sort (filter passes (places_from 0 (take (i + 1) shards))) new
+adds_shard view sort passes shards i rows old new less is was adds =
     let front = places_from 0 (take i shards) in
-    let rest = places_of_shard (i * 4294967296) rows in
+    let rest = places_of_shard i 0 rows in
     let more : places_from 0 (take (i + 1) shards) ≡ front ++ rest =
     ap (places_from 0) (take_more shards i rows less ∙ ap (λ it. take i shards ++ it ∷ []) (sym is))
     ∙ places_from-push 0 (take i shards) rows
-    ∙ ap (λ n. front ++ places_of_shard (n * 4294967296) rows) (omega (arith, length-take-le i shards (omega arith))) in
-    subst (λ (all : List Place). AreCandidates view sort all new) (sym (ap (matching view query) more ∙ matching-append view query front rest)) (adds (matching view query front) was)
+    ∙ ap (λ n. front ++ places_of_shard n 0 rows) (omega (arith, length-take-le i shards (omega arith))) in
+    subst (λ (all : List Place). AreCandidates view sort all new) (sym (ap (filter passes) more ∙ filter-append passes front rest)) (adds (filter passes front) was)
 
--- where no row matches, no place of theirs does
-pub none_match : (view : View) (query : Query) (number : ℕ) (rows : List Row) → All (λ (row : Row). IsFalse (matches view.mapping row.values query)) rows → matching view query (places_of_shard number rows) ≡ []
-none_match view query number [] all = refl
-none_match view query number (row ∷ rows) all =
-    let place : Place = record { number = number; row = row } in
-    let others = matching view query (places_of_shard (number + 1) rows) in
-    ap (λ b. cond b (place ∷ others) others) (All-head (λ (row : Row). IsFalse (matches view.mapping row.values query)) row rows all)
-    ∙ none_match view query (number + 1) rows (All-tail (λ (row : Row). IsFalse (matches view.mapping row.values query)) row rows all)
+-- where none of a shard's rows passes, none of its places does
+pub none_pass : (passes : Place → Bool) (shard rank : ℕ) (rows : List Row) → ((k : ℕ) → All (λ (row : Row). passes (record { shard = shard; rank = k; row = row }) ≡ false) rows)
+    → filter passes (places_of_shard shard rank rows) ≡ []
+none_pass passes shard rank [] all = refl
+none_pass passes shard rank (row ∷ rows) all =
+    let fails : ℕ → Row → Type 0 = λ (k : ℕ) (row : Row). passes (record { shard = shard; rank = k; row = row }) ≡ false in
+    let place : Place = record { shard = shard; rank = rank; row = row } in
+    let others = filter passes (places_of_shard shard (rank + 1) rows) in
+    ap (λ b. cond b (place ∷ others) others) (All-head (fails rank) row rows (all rank))
+    ∙ none_pass passes shard (rank + 1) rows (λ k. All-tail (fails k) row rows (all k))
+
+-- no place of a shard passes that the slice has nothing of
+pub none_had : (view : View) (query : Query) (slice : Option Slice) (shard : ℕ) (rows : List Row) → ((rank : ℕ) → false ≡ is_had (length view.shards) slice shard rank)
+    → filter (is_wanted view query slice) (places_of_shard shard 0 rows) ≡ []
+none_had view query slice shard rows none =
+    none_pass (is_wanted view query slice) shard 0 rows (λ k i d less. ap (λ b. b && matches view.mapping (get_or rows i d).values query) (sym (none k)))
+
+never : (b : Bool) → (b && false) ≡ false
+never true = refl
+never false = refl
+
+-- nor of one whose rows don't match
+pub none_match : (view : View) (query : Query) (slice : Option Slice) (shard : ℕ) (rows : List Row) → All (λ (row : Row). IsFalse (matches view.mapping row.values query)) rows
+    → filter (is_wanted view query slice) (places_of_shard shard 0 rows) ≡ []
+none_match view query slice shard rows all =
+    none_pass (is_wanted view query slice) shard 0 rows (λ k i d less.
+    ap (λ b. is_had (length view.shards) slice shard k && b) (all i d less) ∙ never (is_had (length view.shards) slice shard k))
 
 -- the bounds of the shard that is read are those of its rows
 pub bounded_at : (view : ViewRef) (i : ℕ) (shard : ShardRef) → AreBounded view → i < length view.shards.now → shard ≡ get_or view.shards.now i shard

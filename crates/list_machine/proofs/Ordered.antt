@@ -1,5 +1,5 @@
 -- Lists that are put in order, and the enumeration of a view.
-use Rattle.std.proofs.Common.{◌≡◌, ◌≢◌, ◌⊎◌, ℕ, zero, suc, ◌+◌, ◌<◌, ◌≤◌, Bool, true, false, cond, eqb, List, [], ◌∷◌, length, get_or, All, AllPairs, Contains, Ordering, Less, Equal, Greater, is_lt, inl, inr, ⊎_elim, refl, sym, ap, ap₂, subst, ◌∙◌, arith, true≢false, eqb-true, subst₂}
+use Rattle.std.proofs.Common.{◌≡◌, ◌≢◌, ◌⊎◌, ℕ, zero, suc, ◌+◌, ◌<◌, ◌≤◌, Bool, true, false, cond, eqb, List, [], ◌∷◌, length, get_or, All, AllPairs, Contains, Option, Ordering, Less, Equal, Greater, is_lt, inl, inr, ⊎_elim, refl, sym, ap, ap₂, subst, ◌∙◌, arith, true≢false, eqb-true, subst₂}
 use Rattle.std.specs.Cmp.{IsTotalOrder}
 use Rattle.std.specs.List.{swap}
 use Rattle.std.specs.List.Sorted.{IsPermutation, IsSortedBy}
@@ -14,13 +14,13 @@ use Rattle.std.proofs.lemmas.List.Sorted.{All-permutation, Contains-permutation,
 use Rattle.es_types.specs.declared.mapping.Field.{Field}
 use Rattle.es_types.specs.declared.row.Value.{Value}
 use Rattle.es_query.specs.declared.query.Query.{Query}
-use Rattle.es_query.specs.Matches.{matches}
 use Rattle.es_sort.specs.declared.sort.Keys.{Keys}
 use Rattle.es_sort.specs.declared.sort.SortSpec.{SortSpec}
 use Rattle.es_sort.specs.Keys.{full_key}
 use Rattle.es_sort.specs.Orders.{compare}
+use Rattle.slice_rule.specs.declared.slice.Slice.{Slice}
 use Rattle.list_machine.specs.Sorting.{in_order, put_in}
-use Rattle.list_machine.specs.Views.{HasPlaces, Place, View, comes_before, enumeration, found, key_at, places_from}
+use Rattle.list_machine.specs.Views.{HasPlaces, Place, View, comes_before, enumeration, found, is_wanted, key_at, place_number, places_from}
 use Rattle.list_machine.proofs.PlacesInOrder.{Rising, rising_filter, rising_places}
 
 -- a test by which nothing comes before itself, and what comes before an earlier one comes before a later one
@@ -42,11 +42,11 @@ pairs_head R x xs all k d within = all zero (suc k) d (omega arith) (omega arith
 pub pairs_tail : {X : Type 0} (R : X → X → Type 0) (x : X) (xs : List X) → AllPairs R (x ∷ xs) → AllPairs R xs
 pairs_tail R x xs all i j d less within = all (suc i) (suc j) d (omega arith) (omega arith)
 
-pairs_nil : {X : Type 0} (R : X → X → Type 0) → AllPairs R []
+pub pairs_nil : {X : Type 0} (R : X → X → Type 0) → AllPairs R []
 pairs_nil R i j d less within = absurd (omega arith)
 
 -- one more element is among the others
-put_in-same : {X : Type 0} (before : X → X → Bool) (x : X) (ys : List X) → IsPermutation (x ∷ ys) (put_in before x ys)
+pub put_in-same : {X : Type 0} (before : X → X → Bool) (x : X) (ys : List X) → IsPermutation (x ∷ ys) (put_in before x ys)
 put_in-same before x [] = IsPermutation-refl (x ∷ [])
 put_in-same before x (y ∷ ys) =
     cond_both (before x y) (x ∷ y ∷ ys) (y ∷ put_in before x ys) (IsPermutation (x ∷ y ∷ ys)) (λ _. IsPermutation-refl (x ∷ y ∷ ys))
@@ -54,7 +54,7 @@ put_in-same before x (y ∷ ys) =
     (IsPermutation-cons y (x ∷ ys) (put_in before x ys) (put_in-same before x ys)))
 
 -- a list that is put in order has the same elements
-in_order-same : {X : Type 0} (before : X → X → Bool) (xs : List X) → IsPermutation xs (in_order before xs)
+pub in_order-same : {X : Type 0} (before : X → X → Bool) (xs : List X) → IsPermutation xs (in_order before xs)
 in_order-same before [] = IsPermutation-refl []
 in_order-same before (x ∷ xs) =
     IsPermutation-trans (x ∷ xs) (x ∷ in_order before xs) (put_in before x (in_order before xs))
@@ -83,17 +83,17 @@ in_order-rises before strict (x ∷ xs) either =
     (in_order-rises before strict xs (pairs_tail (Either before) x xs either))
 
 -- an element of a list is its first one or behind it
-contains_cases : {X : Type 0} (x z : X) (xs : List X) → Contains (x ∷ xs) z → (x ≡ z) ⊎ Contains xs z
+pub contains_cases : {X : Type 0} (x z : X) (xs : List X) → Contains (x ∷ xs) z → (x ≡ z) ⊎ Contains xs z
 contains_cases x z xs it = go it.0 it.1 it.2
   where
     go : (k : ℕ) → k < length (x ∷ xs) → get_or (x ∷ xs) k z ≡ z → (x ≡ z) ⊎ Contains xs z
     go zero within is = inl is
     go (suc k) within is = inr (k, omega arith, is)
 
-contains_first : {X : Type 0} (x : X) (xs : List X) → Contains (x ∷ xs) x
+pub contains_first : {X : Type 0} (x : X) (xs : List X) → Contains (x ∷ xs) x
 contains_first x xs = (zero, omega arith, refl)
 
-contains_behind : {X : Type 0} (x z : X) (xs : List X) → Contains xs z → Contains (x ∷ xs) z
+pub contains_behind : {X : Type 0} (x z : X) (xs : List X) → Contains xs z → Contains (x ∷ xs) z
 contains_behind x z xs it = (suc it.0, omega (arith, it.1), it.2)
 
 -- the first of two lists with the same elements, where both rise
@@ -204,58 +204,58 @@ either_by sort a b Equal total is differ = absurd (differ refl)
 either_by sort a b Greater total is differ = inr (ap is_lt (total.antisymm b a ∙ ap ordering_reverse is))
 
 -- of two places with different numbers one comes before the other
-either_first : KeyLaws → (view : View) (sort : SortSpec) (a b : Place) → a.number ≢ b.number → Either (comes_before view sort) a b
+either_first : KeyLaws → (view : View) (sort : SortSpec) (a b : Place) → place_number a ≢ place_number b → Either (comes_before view sort) a b
 either_first laws view sort a b differ =
     let order = compare sort (key_at view sort a) (key_at view sort b) in
     either_by sort (key_at view sort a) (key_at view sort b) order (laws.total sort) refl
-    (λ same. differ (laws.apart view.mapping sort a.row.values b.row.values a.number b.number same))
+    (λ same. differ (laws.apart view.mapping sort a.row.values b.row.values (place_number a) (place_number b) same))
 
 -- numbers that rise are no lower than their bound
-rising_above : (places : List Place) (low : ℕ) → Rising low places → All (λ (place : Place). low ≤ place.number) places
-rising_above [] low rises = All-nil (λ (place : Place). low ≤ place.number)
+rising_above : (places : List Place) (low : ℕ) → Rising low places → All (λ (place : Place). low ≤ place_number place) places
+rising_above [] low rises = All-nil (λ (place : Place). low ≤ place_number place)
 rising_above (place ∷ places) low rises =
-    All-cons (λ (it : Place). low ≤ it.number) place places rises.0
-    (All-weaker (λ (it : Place). place.number + 1 ≤ it.number) (λ (it : Place). low ≤ it.number) (λ it above. omega (arith, rises.0, above)) places
-    (rising_above places (place.number + 1) rises.1))
+    All-cons (λ (it : Place). low ≤ place_number it) place places rises.0
+    (All-weaker (λ (it : Place). place_number place + 1 ≤ place_number it) (λ (it : Place). low ≤ place_number it) (λ it above. omega (arith, rises.0, above)) places
+    (rising_above places (place_number place + 1) rises.1))
 
 -- of places whose numbers rise one comes before the other
 rising_either : KeyLaws → (view : View) (sort : SortSpec) (places : List Place) (low : ℕ) → Rising low places → AllPairs (Either (comes_before view sort)) places
 rising_either laws view sort [] low rises = pairs_nil (Either (comes_before view sort))
 rising_either laws view sort (place ∷ places) low rises =
     AllPairs-cons (Either (comes_before view sort)) place places
-    (All-weaker (λ (it : Place). place.number + 1 ≤ it.number) (Either (comes_before view sort) place)
-    (λ it above. either_first laws view sort place it (λ same. omega (arith, above, same))) places (rising_above places (place.number + 1) rises.1))
-    (rising_either laws view sort places (place.number + 1) rises.1)
+    (All-weaker (λ (it : Place). place_number place + 1 ≤ place_number it) (Either (comes_before view sort) place)
+    (λ it above. either_first laws view sort place it (λ same. omega (arith, above, same))) places (rising_above places (place_number place + 1) rises.1))
+    (rising_either laws view sort places (place_number place + 1) rises.1)
 
-found_either : KeyLaws → (view : View) (query : Query) (sort : SortSpec) → HasPlaces view → AllPairs (Either (comes_before view sort)) (found view query)
-found_either laws view query sort has =
-    rising_either laws view sort (found view query) 0
-    (rising_filter (λ place. matches view.mapping place.row.values query) (places_from 0 view.shards) 0 (rising_places view.shards 0 has))
+found_either : KeyLaws → (view : View) (query : Query) (sort : SortSpec) (slice : Option Slice) → HasPlaces view → AllPairs (Either (comes_before view sort)) (found view query slice)
+found_either laws view query sort slice has =
+    rising_either laws view sort (found view query slice) 0
+    (rising_filter (is_wanted view query slice) (places_from 0 view.shards) 0 (rising_places view.shards 0 has))
 
 -- the enumeration has the places that are found, each as often
-pub enumeration_same : (view : View) (query : Query) (sort : SortSpec) → IsPermutation (found view query) (enumeration view query sort)
-enumeration_same view query sort = in_order-same (comes_before view sort) (found view query)
+pub enumeration_same : (view : View) (query : Query) (sort : SortSpec) (slice : Option Slice) → IsPermutation (found view query slice) (enumeration view query sort slice)
+enumeration_same view query sort slice = in_order-same (comes_before view sort) (found view query slice)
 
 -- in it each place comes before those behind it
-pub enumeration_rises : (laws : KeyLaws) (view : View) (query : Query) (sort : SortSpec) → HasPlaces view
-    → AllPairs (λ (a b : Place). comes_before view sort a b ≡ true) (enumeration view query sort)
-enumeration_rises laws view query sort has =
-    in_order-rises (comes_before view sort) (places_strict laws view sort) (found view query) (found_either laws view query sort has)
+pub enumeration_rises : (laws : KeyLaws) (view : View) (query : Query) (sort : SortSpec) (slice : Option Slice) → HasPlaces view
+    → AllPairs (λ (a b : Place). comes_before view sort a b ≡ true) (enumeration view query sort slice)
+enumeration_rises laws view query sort slice has =
+    in_order-rises (comes_before view sort) (places_strict laws view sort) (found view query slice) (found_either laws view query sort slice has)
 
 -- no other order of the found places rises
-pub enumeration_only : (laws : KeyLaws) (view : View) (query : Query) (sort : SortSpec) (places : List Place) → HasPlaces view → IsPermutation (found view query) places
-    → AllPairs (λ (a b : Place). comes_before view sort a b ≡ true) places → places ≡ enumeration view query sort
-enumeration_only laws view query sort places has same rises =
-    same_order (comes_before view sort) (places_strict laws view sort) places (enumeration view query sort)
-    (IsPermutation-trans places (found view query) (enumeration view query sort) (IsPermutation-sym (found view query) places same) (enumeration_same view query sort))
-    rises (enumeration_rises laws view query sort has)
+pub enumeration_only : (laws : KeyLaws) (view : View) (query : Query) (sort : SortSpec) (slice : Option Slice) (places : List Place) → HasPlaces view → IsPermutation (found view query slice) places
+    → AllPairs (λ (a b : Place). comes_before view sort a b ≡ true) places → places ≡ enumeration view query sort slice
+enumeration_only laws view query sort slice places has same rises =
+    same_order (comes_before view sort) (places_strict laws view sort) places (enumeration view query sort slice)
+    (IsPermutation-trans places (found view query slice) (enumeration view query sort slice) (IsPermutation-sym (found view query slice) places same) (enumeration_same view query sort slice))
+    rises (enumeration_rises laws view query sort slice has)
 
 -- a sort of the found places gives the enumeration
-pub sorted_is : (laws : KeyLaws) (view : View) (query : Query) (sort : SortSpec) (places : List Place) → HasPlaces view → IsPermutation (found view query) places
-    → IsSortedBy (comes_before view sort) places → places ≡ enumeration view query sort
-sorted_is laws view query sort places has same sorted =
-    let either = pairs-permutation (Either (comes_before view sort)) (λ a b it. ⊎_elim inr inl it) (found view query) places same (found_either laws view query sort has) in
-    enumeration_only laws view query sort places has same
+pub sorted_is : (laws : KeyLaws) (view : View) (query : Query) (sort : SortSpec) (slice : Option Slice) (places : List Place) → HasPlaces view → IsPermutation (found view query slice) places
+    → IsSortedBy (comes_before view sort) places → places ≡ enumeration view query sort slice
+sorted_is laws view query sort slice places has same sorted =
+    let either = pairs-permutation (Either (comes_before view sort)) (λ a b it. ⊎_elim inr inl it) (found view query slice) places same (found_either laws view query sort slice has) in
+    enumeration_only laws view query sort slice places has same
     (λ i j d less within.
     let late : comes_before view sort (get_or places j d) (get_or places i d) ≡ false = sorted_far (comes_before view sort) (ranks_by (laws.total sort) (key_at view sort)) places sorted i j d (omega arith) within in
     ⊎_elim (λ it. it) (λ wrong. absurd (true≢false (sym wrong ∙ late))) (either i j d less within))

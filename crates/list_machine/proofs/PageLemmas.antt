@@ -1,50 +1,51 @@
 -- The page of an enumeration, and the answer with it.
-use Rattle.std.proofs.Common.{◌≡◌, ℕ, ◌-◌, ◌+◌, ◌<◌, ◌≤◌, Bool, true, false, cond, List, [], ◌∷◌, length, map, min, take, drop, get_or, filter, count_by, sum_by, Option, Some, None, All, sym, refl, ap, ap₂, subst, ◌∙◌, arith}
+use Rattle.std.proofs.Common.{◌≡◌, ℕ, ◌-◌, ◌+◌, ◌<◌, ◌≤◌, Bool, true, false, cond, List, [], ◌∷◌, ◌++◌, length, map, min, suc, take, drop, get_or, filter, Option, Some, None, All, sym, refl, ap, ap₂, subst, ◌∙◌, arith}
 use Rattle.std.specs.List.Sorted.{IsPermutation, IsSortedBy}
 use Rattle.std.specs.Ordering.{is_lt}
-use Rattle.std.proofs.lemmas.List.{drop_min, get_or-map, length-map, take_min, take-map, drop-map}
+use Rattle.std.proofs.lemmas.List.{drop_min, get_or-map, length-map, length-take-le, take_min, take_more, take-map, drop-map}
 use Rattle.std.proofs.lemmas.List.Elements.{All-drop, All-filter, All-head, All-tail, All-take, All-weaker}
 use Rattle.std.proofs.lemmas.List.Sorted.{All-permutation, IsPermutation-map}
-use Rattle.std.proofs.lemmas.List.Sums.{sum_by-cons}
 use Rattle.std.proofs.lemmas.Simd.{map-map}
-use Rattle.es_types.specs.declared.bounds.Bounds.{Bounds}
 use Rattle.es_types.specs.declared.row.Row.{Row}
 use Rattle.es_query.specs.declared.query.Query.{Query}
-use Rattle.es_query.specs.Excluded.{excluded}
-use Rattle.es_query.specs.Limits.{bounds_of}
 use Rattle.es_sort.specs.declared.sort.Keys.{Keys}
 use Rattle.es_sort.specs.declared.sort.SortSpec.{SortSpec}
 use Rattle.es_sort.specs.Orders.{compare, is_after}
+use Rattle.slice_rule.specs.declared.slice.Slice.{Slice}
 use Rattle.list_machine.specs.declared.candidates.Candidate.{Candidate}
 use Rattle.list_machine.specs.declared.search.Answer.{Answer}
 use Rattle.list_machine.specs.declared.search.Hit.{Hit}
 use Rattle.list_machine.specs.declared.search.SearchRequest.{SearchRequest}
-use Rattle.list_machine.specs.declared.view.ShardRef.{ShardRef}
-use Rattle.list_machine.specs.declared.view.ViewRef.{ViewRef}
 use Rattle.list_machine.specs.Paging.{AreCandidates, key_beyond, place_seen, places_seen}
-use Rattle.list_machine.specs.Stores.{AreBounded, IsSmall, view_at}
-use Rattle.list_machine.specs.Views.{HasPlaces, Place, View, answer, comes_before, enumeration, found, hit, is_beyond, key_at, page, phases, skipped}
+use Rattle.list_machine.specs.Stores.{IsSmall}
+use Rattle.list_machine.specs.Views.{HasPlaces, Place, View, answer, comes_before, enumeration, found, hit, is_beyond, is_skipped, key_at, page, phases, skipped, skipped_from}
 use Rattle.list_machine.proofs.Beyond.{filter_all}
 use Rattle.list_machine.proofs.Ordered.{KeyLaws, sorted_is}
 
--- a sum and a count over a list that a function made
-sum_by-map : {X Y : Type 0} (f : Y → ℕ) (g : X → Y) (xs : List X) → sum_by f (map g xs) ≡ sum_by (λ x. f (g x)) xs
-sum_by-map f g [] = refl
-sum_by-map f g (x ∷ xs) = sum_by-cons f (g x) (map g xs) ∙ ap (λ n. f (g x) + n) (sum_by-map f g xs) ∙ sym (sum_by-cons (λ x. f (g x)) x xs)
+-- one more shard is skipped or not
+pub skipped-push : (view : View) (query : Query) (slice : Option Slice) (shard : ℕ) (shards : List (List Row)) (rows : List Row)
+    → skipped_from view query slice shard (shards ++ rows ∷ []) ≡ skipped_from view query slice shard shards + cond (is_skipped view query slice (shard + length shards) rows) 1 0
+skipped-push view query slice shard [] rows =
+    let place : shard ≡ shard + 0 = omega arith in
+    let sum : cond (is_skipped view query slice shard rows) 1 0 + 0 ≡ 0 + cond (is_skipped view query slice shard rows) 1 0 = omega arith in
+    sum ∙ ap (λ n. 0 + cond (is_skipped view query slice n rows) 1 0) place
+skipped-push view query slice shard (first ∷ shards) rows =
+    let one : ℕ = cond (is_skipped view query slice shard first) 1 0 in
+    let more : ℕ = cond (is_skipped view query slice ((shard + 1) + length shards) rows) 1 0 in
+    let others : ℕ = skipped_from view query slice (shard + 1) shards in
+    let place : (shard + 1) + length shards ≡ shard + suc (length shards) = omega arith in
+    let sum : one + (others + more) ≡ (one + others) + more = omega arith in
+    ap (λ n. one + n) (skipped-push view query slice (shard + 1) shards rows)
+    ∙ sum
+    ∙ ap (λ n. (one + others) + cond (is_skipped view query slice n rows) 1 0) place
 
-count_by-map : {X Y : Type 0} (f : Y → Bool) (g : X → Y) (xs : List X) → count_by f (map g xs) ≡ count_by (λ x. f (g x)) xs
-count_by-map f g xs = sum_by-map (λ y. cond (f y) 1 0) g xs
-
--- how many shards are skipped, by their bounds
-pub skipped_is : (view : ViewRef) (query : Query) → AreBounded view
-    → count_by (λ (shard : ShardRef). excluded view.mapping.now shard.bounds.now query) view.shards.now ≡ skipped (view_at view) query
-skipped_is view query bounded =
-    let mapping = view.mapping.now in
-    let shards = view.shards.now in
-    let out : Bounds → Bool = λ them. excluded mapping them query in
-    sym (count_by-map out (λ (shard : ShardRef). shard.bounds.now) shards)
-    ∙ ap (count_by out) bounded
-    ∙ count_by-map out (bounds_of mapping) (map (λ (shard : ShardRef). shard.rows.now) shards)
+-- the step of a loop over the shards
+pub skipped-more : (view : View) (query : Query) (slice : Option Slice) (shards : List (List Row)) (i : ℕ) (rows : List Row) → i < length shards → rows ≡ get_or shards i rows
+    → skipped_from view query slice 0 (take (i + 1) shards) ≡ skipped_from view query slice 0 (take i shards) + cond (is_skipped view query slice i rows) 1 0
+skipped-more view query slice shards i rows less is =
+    ap (skipped_from view query slice 0) (take_more shards i rows less ∙ ap (λ it. take i shards ++ it ∷ []) (sym is))
+    ∙ skipped-push view query slice 0 (take i shards) rows
+    ∙ ap (λ n. skipped_from view query slice 0 (take i shards) + cond (is_skipped view query slice n rows) 1 0) (omega (arith, length-take-le i shards (omega arith)))
 
 -- no shard of a small view has more rows than it has numbers for
 pub small_has_places : (view : View) → IsSmall view → HasPlaces view
@@ -63,12 +64,12 @@ sorted_places view sort (first ∷ rest) keyed sorted k d low within =
     ap₂ (λ a b. is_lt (compare sort a b)) (key_of (k + 1) later) (key_of k (omega arith)) ∙ sorted k first low later
 
 -- the candidates in the order of their keys are those of the enumeration
-pub sorted_candidates : KeyLaws → (view : View) (query : Query) (sort : SortSpec) (old new : List Candidate) → HasPlaces view → AreCandidates view sort (found view query) old
-    → IsPermutation old new → IsSortedBy (λ (a b : Candidate). is_lt (compare sort a.key b.key)) new → AreCandidates view sort (enumeration view query sort) new
-sorted_candidates laws view query sort old new has was same sorted =
+pub sorted_candidates : KeyLaws → (view : View) (query : Query) (sort : SortSpec) (slice : Option Slice) (old new : List Candidate) → HasPlaces view → AreCandidates view sort (found view query slice) old
+    → IsPermutation old new → IsSortedBy (λ (a b : Candidate). is_lt (compare sort a.key b.key)) new → AreCandidates view sort (enumeration view query sort slice) new
+sorted_candidates laws view query sort slice old new has was same sorted =
     let keyed = All-permutation (λ (one : Candidate). one.key ≡ key_at view sort (place_seen one)) old new same was.keyed in
     record {
-      are = sorted_is laws view query sort (places_seen new) has (subst (λ (all : List Place). IsPermutation all (places_seen new)) was.are (IsPermutation-map place_seen old new same)) (sorted_places view sort new keyed sorted);
+      are = sorted_is laws view query sort slice (places_seen new) has (subst (λ (all : List Place). IsPermutation all (places_seen new)) was.are (IsPermutation-map place_seen old new same)) (sorted_places view sort new keyed sorted);
       keyed = keyed;
     }
 
@@ -119,7 +120,7 @@ part_are view sort places them skip size is =
 
 -- the hits of a part of them are those of the page
 pub page_is : (view : View) (request : SearchRequest) (left rest : List Candidate) (skip start size : ℕ)
-    → AreCandidates view request.sort (filter (is_beyond view request.sort request.after) (enumeration view request.query request.sort)) left
+    → AreCandidates view request.sort (filter (is_beyond view request.sort request.after) (enumeration view request.query request.sort request.slice)) left
     → start ≡ min skip (length left) → rest ≡ drop start left → size ≡ min request.size (length rest)
     → map (λ one. hit view request.sort (place_seen one)) (take size rest) ≡ map (hit view request.sort) (page view request skip)
 page_is view request left rest skip start size is begins cut ends =
@@ -127,7 +128,7 @@ page_is view request left rest skip start size is begins cut ends =
     let part : take size rest ≡ take request.size (drop skip left) = ap (λ n. take n rest) ends ∙ take_min request.size rest ∙ ap (take request.size) behind in
     ap (map (λ one. hit view request.sort (place_seen one))) part
     ∙ sym (map-map (hit view request.sort) place_seen (take request.size (drop skip left)))
-    ∙ ap (map (hit view request.sort)) (part_are view request.sort (filter (is_beyond view request.sort request.after) (enumeration view request.query request.sort)) left skip request.size is).are
+    ∙ ap (map (hit view request.sort)) (part_are view request.sort (filter (is_beyond view request.sort request.after) (enumeration view request.query request.sort request.slice)) left skip request.size is).are
 
 -- an answer of these parts
 abbrev made : ℕ → ℕ → ℕ → ℕ → List Hit → Answer
@@ -136,11 +137,11 @@ made shards skipped phases total hits =
 
 -- an answer from its parts
 pub answer_is : (view : View) (request : SearchRequest) (skip shards some steps total : ℕ) (hits : List Hit)
-    → shards ≡ length view.shards → some ≡ skipped view request.query → steps ≡ phases (shards - some) request.batch
-    → total ≡ length (enumeration view request.query request.sort) → hits ≡ map (hit view request.sort) (page view request skip)
+    → shards ≡ length view.shards → some ≡ skipped view request.query request.slice → steps ≡ phases (shards - some) request.batch
+    → total ≡ length (enumeration view request.query request.sort request.slice) → hits ≡ map (hit view request.sort) (page view request skip)
     → made shards some steps total hits ≡ answer view request skip
 answer_is view request skip shards some steps total hits many skips phased counted shows =
     ap (λ n. made shards some n total hits) phased
     ∙ ap (λ n. made n some (phases (n - some) request.batch) total hits) many
     ∙ ap (λ n. made (length view.shards) n (phases (length view.shards - n) request.batch) total hits) skips
-    ∙ ap₂ (made (length view.shards) (skipped view request.query) (phases (length view.shards - skipped view request.query) request.batch)) counted shows
+    ∙ ap₂ (made (length view.shards) (skipped view request.query request.slice) (phases (length view.shards - skipped view request.query request.slice) request.batch)) counted shows

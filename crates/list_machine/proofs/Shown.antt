@@ -10,7 +10,7 @@ use Rattle.es_sort.specs.declared.sort.SortSpec.{SortSpec}
 use Rattle.es_sort.specs.Keys.{all_keys, lists_place, shown_keys, values_by, with_place}
 use Rattle.es_sort.specs.Orders.{compare, values_order}
 use Rattle.list_machine.specs.Pages.{shows_place}
-use Rattle.list_machine.specs.Views.{View, Place, comes_before, is_beyond, key_at, shown_at}
+use Rattle.list_machine.specs.Views.{View, Place, comes_before, is_beyond, key_at, place_number, shown_at}
 
 -- where the place is shown, so is each key
 shows_all : (sort : SortSpec) → shows_place sort ≡ true → shown_keys sort ≡ all_keys sort
@@ -25,7 +25,7 @@ shows_all sort shows = go sort.show_place (lists_place sort.keys) shows
 shown_key : (view : View) (sort : SortSpec) → shows_place sort ≡ true → (place : Place) (after : Keys) → after.values ≡ shown_at view sort place → after ≡ key_at view sort place
 shown_key view sort shows place after is =
     let keyed : List Value → Keys = λ values. record { values = values } in
-    ap keyed (is ∙ ap (values_by view.mapping place.row.values place.number) (shows_all sort shows))
+    ap keyed (is ∙ ap (values_by view.mapping place.row.values (place_number place)) (shows_all sort shows))
 
 -- beyond them are the places that it comes before
 pub beyond_is : (view : View) (sort : SortSpec) → IsTotalOrder (compare sort) → shows_place sort ≡ true → (place : Place) (after : Keys) → after.values ≡ shown_at view sort place

@@ -1,5 +1,5 @@
 -- Pages of a point in time that are taken in turn.
-use Rattle.std.proofs.Common.{◌≡◌, ℕ, true, ◌+◌, ◌<◌, ◌≤◌, ⊎_elim, List, [], ◌∷◌, ◌++◌, length, map, take, drop, Some, None, All, filter, bytes_eq, refl, sym, ap, ap₂, ◌∙◌, subst, arith, append_assoc, append-nil, length-append, take-append-drop, length-take}
+use Rattle.std.proofs.Common.{◌≡◌, ℕ, true, ◌+◌, ◌<◌, ◌≤◌, ⊎_elim, List, [], ◌∷◌, ◌++◌, length, map, take, drop, Option, Some, None, All, filter, bytes_eq, refl, sym, ap, ap₂, ◌∙◌, subst, arith, append_assoc, append-nil, length-append, take-append-drop, length-take}
 use Rattle.std.proofs.lemmas.Bool.{cases_lt}
 use Rattle.std.proofs.lemmas.List.{map-append, length-map, drop_all}
 use Rattle.std.proofs.lemmas.List.Elements.{All-map, All-weaker}
@@ -8,6 +8,7 @@ use Rattle.es_types.specs.declared.row.Value.{Value}
 use Rattle.es_query.specs.declared.query.Query.{Query}
 use Rattle.es_sort.specs.declared.sort.Keys.{Keys}
 use Rattle.es_sort.specs.declared.sort.SortSpec.{SortSpec}
+use Rattle.slice_rule.specs.declared.slice.Slice.{Slice}
 use Rattle.list_machine.specs.declared.event.Entry.{Entry}
 use Rattle.list_machine.specs.declared.event.Event.{Event}
 use Rattle.list_machine.specs.declared.event.Limits.{Limits}
@@ -122,47 +123,48 @@ page_end view sort size front places hits after e ends =
     (r.0, r.1, sym shown, ap (λ t. front ++ t) cut ∙ sym (append_assoc front r.0 (r.1 ∷ drop size places)))
 
 -- the pages of a point in time are of its view, and the sort shows its places, of which each comes before those behind it
-record Chain (limits : Limits) (history : History) (number : ℕ) (view : View) (query : Query) (sort : SortSpec) : Type 0 where
+record Chain (limits : Limits) (history : History) (number : ℕ) (view : View) (query : Query) (sort : SortSpec) (slice : Option Slice) : Type 0 where
   each : (turn : Turn limits history number) → turn.answer ≡ answer view turn.request turn.request.from
   laws : KeyLaws
   shows : shows_place sort ≡ true
-  ordered : AreInOrder view sort (enumeration view query sort)
+  ordered : AreInOrder view sort (enumeration view query sort slice)
 
 -- the hits of such a page, with their places
-hits_are : {limits : Limits} {history : History} {number : ℕ} {view : View} {query : Query} {sort : SortSpec} → Chain limits history number view query sort → (turn : Turn limits history number) → Asks query sort turn
-    → turn.answer.hits ≡ map (hit view sort) (take turn.request.size (filter (is_beyond view sort turn.request.after) (enumeration view query sort)))
-hits_are {limits} {history} {number} {view} {query} {sort} chain turn asks =
+hits_are : {limits : Limits} {history : History} {number : ℕ} {view : View} {query : Query} {sort : SortSpec} {slice : Option Slice} → Chain limits history number view query sort slice → (turn : Turn limits history number) → Asks query sort slice turn
+    → turn.answer.hits ≡ map (hit view sort) (take turn.request.size (filter (is_beyond view sort turn.request.after) (enumeration view query sort slice)))
+hits_are {limits} {history} {number} {view} {query} {sort} {slice} chain turn asks =
     ap (λ a. a.hits) (chain.each turn)
     ∙ ap (λ n. (answer view turn.request n).hits) asks.whole
-    ∙ ap₂ (λ q s. map (hit view s) (take turn.request.size (filter (is_beyond view s turn.request.after) (enumeration view q s)))) asks.query_is asks.sort_is
+    ∙ ap₂ (λ q s. map (hit view s) (take turn.request.size (filter (is_beyond view s turn.request.after) (enumeration view q s turn.request.slice)))) asks.query_is asks.sort_is
+    ∙ ap (λ it. map (hit view sort) (take turn.request.size (filter (is_beyond view sort turn.request.after) (enumeration view query sort it)))) asks.slice_is
 
 -- the first page is of all places
-first_page : {limits : Limits} {history : History} {number : ℕ} {view : View} {query : Query} {sort : SortSpec} → Chain limits history number view query sort → (turn : Turn limits history number) → Asks query sort turn
-    → turn.request.after ≡ None → turn.answer.hits ≡ map (hit view sort) (take turn.request.size (enumeration view query sort))
-first_page {limits} {history} {number} {view} {query} {sort} chain turn asks begins =
+first_page : {limits : Limits} {history : History} {number : ℕ} {view : View} {query : Query} {sort : SortSpec} {slice : Option Slice} → Chain limits history number view query sort slice → (turn : Turn limits history number) → Asks query sort slice turn
+    → turn.request.after ≡ None → turn.answer.hits ≡ map (hit view sort) (take turn.request.size (enumeration view query sort slice))
+first_page {limits} {history} {number} {view} {query} {sort} {slice} chain turn asks begins =
     hits_are chain turn asks
     ∙ ap (λ t. map (hit view sort) (take turn.request.size t))
-    (ap (λ a. filter (is_beyond view sort a) (enumeration view query sort)) begins ∙ beyond_nothing view sort (enumeration view query sort))
+    (ap (λ a. filter (is_beyond view sort a) (enumeration view query sort slice)) begins ∙ beyond_nothing view sort (enumeration view query sort slice))
 
 -- the page behind a place is of what was left
-next_page : {limits : Limits} {history : History} {number : ℕ} {view : View} {query : Query} {sort : SortSpec} → Chain limits history number view query sort → (turn : Turn limits history number) → Asks query sort turn
-    → (front : List Place) (place : Place) (rest : List Place) → enumeration view query sort ≡ front ++ place ∷ rest
+next_page : {limits : Limits} {history : History} {number : ℕ} {view : View} {query : Query} {sort : SortSpec} {slice : Option Slice} → Chain limits history number view query sort slice → (turn : Turn limits history number) → Asks query sort slice turn
+    → (front : List Place) (place : Place) (rest : List Place) → enumeration view query sort slice ≡ front ++ place ∷ rest
     → (after : Keys) → turn.request.after ≡ Some after → after.values ≡ shown_at view sort place → turn.answer.hits ≡ map (hit view sort) (take turn.request.size rest)
-next_page {limits} {history} {number} {view} {query} {sort} chain turn asks front place rest all after begins shown =
+next_page {limits} {history} {number} {view} {query} {sort} {slice} chain turn asks front place rest all after begins shown =
     hits_are chain turn asks
     ∙ ap (λ t. map (hit view sort) (take turn.request.size t))
     (ap₂ (λ a ps. filter (is_beyond view sort a) ps) begins all ∙ beyond_place view sort chain.laws chain.shows front place rest (subst (AreInOrder view sort) all chain.ordered) after shown)
 
 -- Where a turn's page is of the places that are left, the pages from it on are a prefix of the hits of those, and all once a page is short.
-pages_from : {limits : Limits} {history : History} {number : ℕ} {view : View} {query : Query} {sort : SortSpec} → Chain limits history number view query sort
-    → (turns : List (Turn limits history number)) (turn : Turn limits history number) (front places : List Place) → enumeration view query sort ≡ front ++ places → turn.answer.hits ≡ map (hit view sort) (take turn.request.size places)
-    → GoesOn query sort turn turns → (rest : List Hit) × (map (hit view sort) places ≡ hits_of (turn ∷ turns) ++ rest) × (EndsShort (turn ∷ turns) → rest ≡ [])
-pages_from {limits} {history} {number} {view} {query} {sort} chain [] turn front places all is on = (
+pages_from : {limits : Limits} {history : History} {number : ℕ} {view : View} {query : Query} {sort : SortSpec} {slice : Option Slice} → Chain limits history number view query sort slice
+    → (turns : List (Turn limits history number)) (turn : Turn limits history number) (front places : List Place) → enumeration view query sort slice ≡ front ++ places → turn.answer.hits ≡ map (hit view sort) (take turn.request.size places)
+    → GoesOn query sort slice turn turns → (rest : List Hit) × (map (hit view sort) places ≡ hits_of (turn ∷ turns) ++ rest) × (EndsShort (turn ∷ turns) → rest ≡ [])
+pages_from {limits} {history} {number} {view} {query} {sort} {slice} chain [] turn front places all is on = (
   map (hit view sort) (drop turn.request.size places),
   page_and_rest view sort turn.request.size places ∙ ap (λ t. t ++ map (hit view sort) (drop turn.request.size places)) (sym is ∙ sym (append-nil turn.answer.hits)),
   λ short. short_page view sort turn.request.size places (subst (λ (hits : List Hit). length hits < turn.request.size) is short),
 )
-pages_from {limits} {history} {number} {view} {query} {sort} chain (next ∷ turns) turn front places all is on =
+pages_from {limits} {history} {number} {view} {query} {sort} {slice} chain (next ∷ turns) turn front places all is on =
     let left = drop turn.request.size places in
     let end = page_end view sort turn.request.size front places turn.answer.hits on.0.after.values is on.0.ends in
     let whole = all ∙ end.3 in
@@ -175,19 +177,19 @@ pages_from {limits} {history} {number} {view} {query} {sort} chain (next ∷ tur
     )
 
 -- pages in turn, of the places of a view in order
-pages_all : {limits : Limits} {history : History} {number : ℕ} {view : View} {query : Query} {sort : SortSpec} → Chain limits history number view query sort
-    → (turns : List (Turn limits history number)) → InTurn query sort turns → (rest : List Hit) × (map (hit view sort) (enumeration view query sort) ≡ hits_of turns ++ rest) × (EndsShort turns → rest ≡ [])
-pages_all {limits} {history} {number} {view} {query} {sort} chain [] on = (map (hit view sort) (enumeration view query sort), refl, λ short. absurd short)
-pages_all {limits} {history} {number} {view} {query} {sort} chain (turn ∷ turns) on =
-    pages_from chain turns turn [] (enumeration view query sort) refl (first_page chain turn on.1 on.0) on.2
+pages_all : {limits : Limits} {history : History} {number : ℕ} {view : View} {query : Query} {sort : SortSpec} {slice : Option Slice} → Chain limits history number view query sort slice
+    → (turns : List (Turn limits history number)) → InTurn query sort slice turns → (rest : List Hit) × (map (hit view sort) (enumeration view query sort slice) ≡ hits_of turns ++ rest) × (EndsShort turns → rest ≡ [])
+pages_all {limits} {history} {number} {view} {query} {sort} {slice} chain [] on = (map (hit view sort) (enumeration view query sort slice), refl, λ short. absurd short)
+pages_all {limits} {history} {number} {view} {query} {sort} {slice} chain (turn ∷ turns) on =
+    pages_from chain turns turn [] (enumeration view query sort slice) refl (first_page chain turn on.1 on.0) on.2
 
 -- pages in turn, in every history
 pub enumerates : KeyLaws → (limits : Limits) (history : History) → Enumerates limits history
-enumerates laws limits history number view query sort turns opens shows on =
-    let chain : Chain limits history number view query sort = record {
+enumerates laws limits history number view query sort slice turns opens shows on =
+    let chain : Chain limits history number view query sort slice = record {
       each = turn_answer limits history number view opens;
       laws = laws;
       shows = shows;
-      ordered = enumeration_rises laws view query sort (view_few limits history number view opens);
+      ordered = enumeration_rises laws view query sort slice (view_few limits history number view opens);
     } in
     pages_all chain turns on

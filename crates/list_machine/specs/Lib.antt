@@ -6,6 +6,7 @@ pub mod State
 pub mod Step
 pub mod Run
 pub mod Pages
+pub mod Sliced
 pub mod Serving
 pub mod Ran
 pub mod Stores

@@ -1,10 +1,11 @@
 -- Pages of a point in time that are taken in turn.
-use Rattle.std.specs.Prelude.{◌≡◌, ℕ, ◌<◌, Bool, ◌||◌, List, [], ◌∷◌, ◌++◌, length, map, flat_map, Some, None, IsTrue}
+use Rattle.std.specs.Prelude.{◌≡◌, ℕ, ◌<◌, Bool, ◌||◌, List, [], ◌∷◌, ◌++◌, length, map, flat_map, Option, Some, None, IsTrue}
 use Rattle.es_types.specs.declared.row.Value.{Value}
 use Rattle.es_query.specs.declared.query.Query.{Query}
 use Rattle.es_sort.specs.declared.sort.Keys.{Keys}
 use Rattle.es_sort.specs.declared.sort.SortSpec.{SortSpec}
 use Rattle.es_sort.specs.Keys.{lists_place}
+use Rattle.slice_rule.specs.declared.slice.Slice.{Slice}
 use Rattle.list_machine.specs.declared.event.Entry.{Entry}
 use Rattle.list_machine.specs.declared.event.Event.TheVariants.{OpenPit, Search}
 use Rattle.list_machine.specs.declared.event.Target.TheVariants.{Pit}
@@ -41,20 +42,21 @@ pub record Follows {limits : Limits} {history : History} {number : ℕ} (earlier
   pub ends : EndsAt earlier.answer.hits after.values
   pub begins : later.request.after ≡ Some after
 
--- the search asks for that query in the order of that sort, and leaves out no hit
-pub record Asks {limits : Limits} {history : History} {number : ℕ} (query : Query) (sort : SortSpec) (turn : Turn limits history number) : Type 0 where
+-- the search asks for that query in the order of that sort, of that slice if of one, and leaves out no hit
+pub record Asks {limits : Limits} {history : History} {number : ℕ} (query : Query) (sort : SortSpec) (slice : Option Slice) (turn : Turn limits history number) : Type 0 where
   pub query_is : turn.request.query ≡ query
   pub sort_is : turn.request.sort ≡ sort
+  pub slice_is : turn.request.slice ≡ slice
   pub whole : turn.request.from ≡ 0
 
-abbrev pub GoesOn : {limits : Limits} {history : History} {number : ℕ} → Query → SortSpec → Turn limits history number → List (Turn limits history number) → Type 0
-GoesOn query sort turn [] = Unit {0}
-GoesOn query sort turn (next ∷ turns) = Follows turn next × Asks query sort next × GoesOn query sort next turns
+abbrev pub GoesOn : {limits : Limits} {history : History} {number : ℕ} → Query → SortSpec → Option Slice → Turn limits history number → List (Turn limits history number) → Type 0
+GoesOn query sort slice turn [] = Unit {0}
+GoesOn query sort slice turn (next ∷ turns) = Follows turn next × Asks query sort slice next × GoesOn query sort slice next turns
 
--- pages of one query and sort in turn: the first begins at the front, and each later one behind the one before
-abbrev pub InTurn : {limits : Limits} {history : History} {number : ℕ} → Query → SortSpec → List (Turn limits history number) → Type 0
-InTurn query sort [] = Unit {0}
-InTurn query sort (turn ∷ turns) = (turn.request.after ≡ None) × Asks query sort turn × GoesOn query sort turn turns
+-- pages of one query, sort and slice in turn: the first begins at the front, and each later one behind the one before
+abbrev pub InTurn : {limits : Limits} {history : History} {number : ℕ} → Query → SortSpec → Option Slice → List (Turn limits history number) → Type 0
+InTurn query sort slice [] = Unit {0}
+InTurn query sort slice (turn ∷ turns) = (turn.request.after ≡ None) × Asks query sort slice turn × GoesOn query sort slice turn turns
 
 -- a hit shows its place, as a key of the sort or behind them
 abbrev pub shows_place : SortSpec → Bool
@@ -83,14 +85,14 @@ pub record Opens (limits : Limits) (history : History) (number : ℕ) (view : Vi
   pub there : index_of index (state_of limits before).indexes ≡ Some found
   pub sees : view ≡ view_of found
 
--- all documents of a view that match, in the order of a sort, with what they show
-abbrev pub documents : View → Query → SortSpec → List Hit
-documents view query sort = map (hit view sort) (enumeration view query sort)
+-- all documents of a view that match, of a slice if of one, in the order of a sort, with what they show
+abbrev pub documents : View → Query → SortSpec → Option Slice → List Hit
+documents view query sort slice = map (hit view sort) (enumeration view query sort slice)
 
 -- Pages taken in turn are a prefix of the sorted matching documents of the frozen view, and all of them once
 -- a page is short.
 abbrev pub Enumerates : Limits → History → Type 0
 Enumerates limits history =
-    (number : ℕ) (view : View) (query : Query) (sort : SortSpec) (turns : List (Turn limits history number))
-    → Opens limits history number view → IsTrue (shows_place sort) → InTurn query sort turns
-    → (rest : List Hit) × (documents view query sort ≡ hits_of turns ++ rest) × (EndsShort turns → rest ≡ [])
+    (number : ℕ) (view : View) (query : Query) (sort : SortSpec) (slice : Option Slice) (turns : List (Turn limits history number))
+    → Opens limits history number view → IsTrue (shows_place sort) → InTurn query sort slice turns
+    → (rest : List Hit) × (documents view query sort slice ≡ hits_of turns ++ rest) × (EndsShort turns → rest ≡ [])

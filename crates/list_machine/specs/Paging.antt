@@ -1,14 +1,13 @@
 -- The rows that a search found, with their places and keys.
-use Rattle.std.specs.Prelude.{◌≡◌, Bool, true, List, ◌++◌, map, Option, Some, None, All}
-use Rattle.es_query.specs.declared.query.Query.{Query}
+use Rattle.std.specs.Prelude.{◌≡◌, Bool, true, List, ◌++◌, map, filter, Option, Some, None, All}
 use Rattle.es_sort.specs.declared.sort.Keys.{Keys}
 use Rattle.es_sort.specs.declared.sort.SortSpec.{SortSpec}
 use Rattle.es_sort.specs.Orders.{is_after}
 use Rattle.list_machine.specs.declared.candidates.Candidate.{Candidate}
-use Rattle.list_machine.specs.Views.{View, Place, key_at, matching}
+use Rattle.list_machine.specs.Views.{View, Place, key_at}
 
 abbrev pub place_seen : Candidate → Place
-place_seen one = record { number = one.place; row = one.row.now }
+place_seen one = record { shard = one.shard; rank = one.rank; row = one.row.now }
 
 abbrev pub places_seen : List Candidate → List Place
 places_seen them = map place_seen them
@@ -18,10 +17,10 @@ pub record AreCandidates (view : View) (sort : SortSpec) (places : List Place) (
   pub are : places_seen them ≡ places
   pub keyed : All (λ (one : Candidate). one.key ≡ key_at view sort (place_seen one)) them
 
--- where the old ones are some first places, the new ones are those too that match among these
-abbrev pub AddsMatching : View → Query → SortSpec → List Place → List Candidate → List Candidate → Type 0
-AddsMatching view query sort places old new =
-    (before : List Place) → AreCandidates view sort before old → AreCandidates view sort (before ++ matching view query places) new
+-- where the old ones are some first places, the new ones are those too that pass among these
+abbrev pub AddsPassing : View → SortSpec → (Place → Bool) → List Place → List Candidate → List Candidate → Type 0
+AddsPassing view sort passes places old new =
+    (before : List Place) → AreCandidates view sort before old → AreCandidates view sort (before ++ filter passes places) new
 
 -- whether what is shown of a key is strictly after these values
 abbrev pub key_beyond : SortSpec → Option Keys → Keys → Bool

@@ -1,5 +1,6 @@
 -- The run of the machine over a history.
-use Rattle.std.specs.Prelude.{◌≡◌, ◌+◌, ◌≤◌, List, [], ◌∷◌, ◌++◌, length}
+use Rattle.std.specs.Prelude.{◌≡◌, ◌+◌, ◌≤◌, List, [], ◌∷◌, ◌++◌, length, IfSome}
+use Rattle.slice_rule.specs.Parts.{IsSlice}
 use Rattle.list_machine.specs.declared.event.Entry.{Entry}
 use Rattle.list_machine.specs.declared.event.Event.{Event}
 use Rattle.list_machine.specs.declared.event.Event.TheVariants.{Create, Search, Write}
@@ -32,13 +33,14 @@ pub record Stands (history before : History) (entry : Entry) : Type 0 where
   pub after : History
   pub is : history ≡ before ++ entry ∷ after
 
--- A search leaves out and asks for at most 10,000 hits together, brings 2 to 1,024 shards together at a time, and sorts by at
--- most 64 keys.
+-- A search leaves out and asks for at most 10,000 hits together, brings 2 to 1,024 shards together at a time, sorts by at most 64
+-- keys, and if it is of a slice, of one that there can be.
 pub record IsWithinLimits (request : SearchRequest) : Type 0 where
   pub window : request.from + request.size ≤ 10000
   pub batch_least : 2 ≤ request.batch
   pub batch_most : request.batch ≤ 1024
   pub keys : length request.sort.keys ≤ 64
+  pub slice : IfSome request.slice IsSlice
 
 -- an index is made with 1 to 1,024 shards, and a search is within the limits of one
 abbrev pub IsBounded : Event → Type 0

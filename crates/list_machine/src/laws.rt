@@ -1,17 +1,20 @@
-ghost use Rattle.std.specs.Prelude.{◌≡◌, ℕ, ◌≤◌, List, ◌++◌, length, All, AllPairs, IsTrue};
+ghost use Rattle.std.specs.Prelude.{◌≡◌, ℕ, ◌≤◌, List, ◌++◌, length, filter, Option, Some, None, All, AllPairs, Contains, IsTrue};
 ghost use Rattle.std.specs.List.Sorted.{IsPermutation};
 ghost use Rattle.es_query.specs.declared.query.Query.{Query};
 ghost use Rattle.es_sort.specs.declared.sort.SortSpec.{SortSpec};
+ghost use Rattle.slice_rule.specs.declared.slice.Slice.{Slice};
 ghost use Rattle.list_machine.specs.declared.event.Entry.{Entry};
 ghost use Rattle.list_machine.specs.declared.event.Limits.{Limits};
 ghost use Rattle.list_machine.specs.Pages.{Enumerates};
 ghost use Rattle.list_machine.specs.Run.{IsBounded, History, PutsObject, reply_of, state_of};
+ghost use Rattle.list_machine.specs.Sliced.{IsInOne, has_place, slice_of};
 ghost use Rattle.list_machine.specs.Stores.{IsCounted};
 ghost use Rattle.list_machine.specs.State.{HasObjects, IsSound, most_shards};
 ghost use Rattle.list_machine.specs.Views.{HasPlaces, Place, View, comes_before, enumeration, found};
 
 use crate::{Event, Reply};
 use es_sort::strict_total_order;
+use slice_rule::each_place_has_a_slice;
 
 /// Pages of a point in time that are taken in turn are a prefix of the sorted matching documents of its view,
 /// and all of them once a page is short, in every history.
@@ -21,16 +24,28 @@ pub fn pages_in_turn()
     strict_total_order();
 }
 
-/// The enumeration of a view, whose shards have at most 2^32 rows, is the one list of the places that match in which each comes
-/// before those behind it.
+/// The enumeration of a view, whose shards have at most 2^32 rows, is the one list of the places that a search wants in which each
+/// comes before those behind it.
 pub fn one_enumeration()
-    ensures same { (view : View) (query : Query) (sort : SortSpec) → IsPermutation (found view query) (enumeration view query sort) }
-    ensures ordered { (view : View) (query : Query) (sort : SortSpec) → HasPlaces view
-        → AllPairs (λ (a b : Place). IsTrue (comes_before view sort a b)) (enumeration view query sort) }
-    ensures only { (view : View) (query : Query) (sort : SortSpec) (places : List Place) → HasPlaces view → IsPermutation (found view query) places
-        → AllPairs (λ (a b : Place). IsTrue (comes_before view sort a b)) places → places ≡ enumeration view query sort }
+    ensures same { (view : View) (query : Query) (sort : SortSpec) (slice : Option Slice) → IsPermutation (found view query slice) (enumeration view query sort slice) }
+    ensures ordered { (view : View) (query : Query) (sort : SortSpec) (slice : Option Slice) → HasPlaces view
+        → AllPairs (λ (a b : Place). IsTrue (comes_before view sort a b)) (enumeration view query sort slice) }
+    ensures only { (view : View) (query : Query) (sort : SortSpec) (slice : Option Slice) (places : List Place) → HasPlaces view → IsPermutation (found view query slice) places
+        → AllPairs (λ (a b : Place). IsTrue (comes_before view sort a b)) places → places ≡ enumeration view query sort slice }
 {
     strict_total_order();
+}
+
+/// However many slices there are of a search, if any, each of its places is in the enumeration of exactly one of them. A slice's
+/// enumeration is that of the whole search, with other places left out.
+pub fn slices_share_out()
+    ensures one { (view : View) (query : Query) (sort : SortSpec) (max : ℕ) (place : Place) → 1 ≤ max
+        → Contains (enumeration view query sort None) place → IsInOne view query sort max place }
+    ensures rest { (view : View) (query : Query) (sort : SortSpec) (max id : ℕ)
+        → enumeration view query sort (Some (slice_of max id)) ≡ filter (has_place view max id) (enumeration view query sort None) }
+{
+    strict_total_order();
+    each_place_has_a_slice();
 }
 
 /// Every state that the machine comes to is sound. Where each put of the history is a JSON object, so is each row.

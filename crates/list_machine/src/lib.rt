@@ -24,7 +24,7 @@ pub use bounds::bounds_of_each;
 pub use context::ContextStore;
 pub use event::{Change, Entry, Event, Limits, Reply, Target, Wrote};
 pub use first::docs;
-pub use laws::{one_enumeration, pages_in_turn, sound_states};
+pub use laws::{one_enumeration, pages_in_turn, slices_share_out, sound_states};
 pub use machine::Machine;
 pub use publishing::apply_ops;
 pub use search::{Answer, Counts, Hit, SearchRequest};

@@ -1,19 +1,19 @@
-ghost use Rattle.std.specs.Prelude.{◌≡◌, ◌≤◌, All, count_by, filter, length, map, IfOk};
-ghost use Rattle.es_query.specs.Excluded.{excluded};
+ghost use Rattle.std.specs.Prelude.{◌≡◌, ◌<◌, ◌≤◌, All, filter, length, map, IfOk, IfSome};
+ghost use Rattle.es_query.specs.Limits.{bounds_of};
+ghost use Rattle.slice_rule.specs.Parts.{IsSlice};
 ghost use Rattle.list_machine.specs.declared.candidates.Candidate.{Candidate as Found};
-ghost use Rattle.list_machine.specs.declared.view.ShardRef.{ShardRef as Shard};
 ghost use Rattle.list_machine.specs.Paging.{AreCandidates, key_beyond, place_seen};
 ghost use Rattle.list_machine.specs.Run.{IsWithinLimits};
 ghost use Rattle.list_machine.specs.State.{most_shards};
 ghost use Rattle.list_machine.specs.Stores.{AreBounded, IsSmall, view_at};
-ghost use Rattle.list_machine.specs.Views.{answer, enumeration, hit, is_beyond, key_at, page, phases};
+ghost use Rattle.list_machine.specs.Views.{answer, enumeration, hit, is_beyond, is_skipped, key_at, page, phases, skipped};
 
-use crate::candidates::{Candidate, candidates};
+use crate::candidates::{Candidate, candidates, cover_of};
 use crate::view::{ShardRef, ViewRef};
 use crate::{Answer, Counts, Hit, SearchRequest};
-use es_query::Query;
 use es_sort::{SortSpec, strict_total_order};
-use es_types::{Copied, Items, Mapping, NoMemory, Value, copy_all};
+use es_types::{Copied, Items, NoMemory, Value, copy_all};
+use slice_rule::Cover;
 use std::alloc::Global;
 
 /// The answer to a search of a view, in the order of its sort.
@@ -28,7 +28,7 @@ pub fn answer(alloc: Global, view: &ViewRef, request: &SearchRequest) -> Result<
     let left = beyond(request, found);
     let hits = page_of(alloc, view, request, &left)?;
     let shards = view.shards.len() as u32;
-    let skipped = count_excluded(&request.query, view.mapping, view.shards);
+    let skipped = count_skipped(view, request);
     Ok(Answer {
         counts: Counts {
             total: shards,
@@ -50,18 +50,36 @@ fn phases(shards: u32, batch: u32) -> u32
     1 + shards.saturating_sub(1) / batch
 }
 
-/// How many shards' bounds exclude a query.
-fn count_excluded(query: &Query, mapping: &Mapping, shards: &[ShardRef]) -> u32
-    requires { length shards.now ≤ most_shards }
-    ensures is { result ≡ count_by (λ (shard : Shard). excluded mapping.now shard.bounds.now query.now) shards.now }
-    ensures within { result ≤ length shards.now }
+/// How many shards need not be looked at.
+fn count_skipped(view: &ViewRef, request: &SearchRequest) -> u32
+    requires bounded { AreBounded view.now }
+    requires few { length view.now.shards.now ≤ most_shards }
+    requires slice { IfSome request.now.slice IsSlice }
+    ensures is { result ≡ skipped (view_at view.now) request.now.query request.now.slice }
+    ensures within { result ≤ length view.now.shards.now }
 {
-    let shards = shards.iter();
-    let excluded = shards.filter(|shard| query.excluded(mapping, shard.bounds));
-    excluded.count() as u32
+    let mut count = 0;
+    for (at, shard) in view.shards.iter().enumerate() {
+        if is_skipped(view, request, at as u32, shard) {
+            count += 1;
+        }
+    }
+    count
 }
 
-/// All rows that match, in the order of the sort.
+/// Whether the shard of that number need not be looked at: the slice doesn't cover it, or its bounds exclude the query.
+fn is_skipped(view: &ViewRef, request: &SearchRequest, at: u32, shard: &ShardRef) -> bool
+    requires there { at < length view.now.shards.now }
+    requires few { length view.now.shards.now ≤ most_shards }
+    requires bounded { shard.now.bounds.now ≡ bounds_of view.now.mapping.now shard.now.rows.now }
+    requires slice { IfSome request.now.slice IsSlice }
+    ensures { result ≡ is_skipped (view_at view.now) request.now.query request.now.slice at shard.now.rows.now }
+{
+    let cover = cover_of(&request.slice, at, view.shards.len() as u32);
+    matches!(cover, Cover::None) || request.query.excluded(view.mapping, shard.bounds)
+}
+
+/// All rows that are wanted, in the order of the sort.
 fn found_in_order<'a>(
     alloc: Global,
     view: &ViewRef<'a>,
@@ -69,8 +87,9 @@ fn found_in_order<'a>(
 ) -> Result<Vec<Candidate<'a>>, NoMemory>
     requires bounded { AreBounded view.now }
     requires small { IsSmall (view_at view.now) }
+    requires within { IsWithinLimits request.now }
     ensures { IfOk result (λ them. AreCandidates (view_at view.now) request.now.sort
-        (enumeration (view_at view.now) request.now.query request.now.sort) them.items) }
+        (enumeration (view_at view.now) request.now.query request.now.sort request.now.slice) them.items) }
 {
     let mut them = candidates(alloc, view, request)?;
     strict_total_order();
@@ -98,7 +117,7 @@ fn page_of(
 ) -> Result<Vec<Hit>, NoMemory>
     requires { AreCandidates (view_at view.now) request.now.sort
         (filter (is_beyond (view_at view.now) request.now.sort request.now.after)
-        (enumeration (view_at view.now) request.now.query request.now.sort)) left.now }
+        (enumeration (view_at view.now) request.now.query request.now.sort request.now.slice)) left.now }
     ensures { IfOk result (λ hits. hits.items ≡ map (hit (view_at view.now) request.now.sort) (page (view_at view.now) request.now request.now.from)) }
 {
     let start = (request.from as usize).min(left.len());

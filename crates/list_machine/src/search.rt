@@ -1,9 +1,11 @@
 use es_query::Query;
 use es_sort::{Keys, SortSpec};
 use es_types::{Bytes, DocId, IndexName, Items, Value};
+use slice_rule::Slice;
 
-/// What a search asks for: the rows that match, in the order of `sort`, and of those strictly behind the values `after`, where
-/// they are given, at most `size` without the first `from`. The tops of its shards are brought together `batch` at a time.
+/// What a search asks for: the rows that match, of a slice where one is given, in the order of `sort`, and of those strictly
+/// behind the values `after`, where they are given, at most `size` without the first `from`. The number of phases is that of its
+/// batches: the tops of `batch` shards would be brought together at a time.
 #[derive(Drop)]
 pub struct SearchRequest {
     pub query: Query,
@@ -11,6 +13,7 @@ pub struct SearchRequest {
     pub from: u32,
     pub size: u32,
     pub after: Option<Keys>,
+    pub slice: Option<Slice>,
     pub batch: u32,
 }
 
@@ -32,8 +35,8 @@ pub struct Counts {
     pub failed: u32,
 }
 
-/// The answer to a search: `total` is how many documents match, `hits` is the page, and `phases` is in how many steps
-/// the tops of the shards were brought together.
+/// The answer to a search: `total` is how many documents match, `hits` is the page, and `phases` is how many batches the shards
+/// that weren't skipped make.
 #[derive(Drop)]
 pub struct Answer {
     pub counts: Counts,

@@ -4,7 +4,7 @@ use Rattle.json.specs.Print.{quoted}
 use Rattle.es_types.specs.declared.fit.DocCause.{DocCause}
 use Rattle.es_types.specs.declared.fit.DocCause.TheVariants.{Kind, TooLong}
 use Rattle.es_types.specs.declared.limit.LimitName.{LimitName}
-use Rattle.es_types.specs.declared.limit.LimitName.TheVariants.{Index, Id, Shards, Fields, Pit, From, Window, Sort}
+use Rattle.es_types.specs.declared.limit.LimitName.TheVariants.{Index, Id, Shards, Fields, Batch, Pit, From, Window, Slice, Sort}
 use Rattle.reply_json.specs.declared.fault.RestFault.{RestFault}
 use Rattle.reply_json.specs.declared.fault.RestFault.TheVariants as fault
 use Rattle.reply_json.specs.Pieces.{joined}
@@ -52,9 +52,11 @@ limit_word Index = codes "index"
 limit_word Id = codes "id"
 limit_word Shards = codes "shards"
 limit_word Fields = codes "fields"
+limit_word Batch = codes "batch"
 limit_word Pit = codes "pit"
 limit_word From = codes "from"
 limit_word Window = codes "window"
+limit_word Slice = codes "slice"
 limit_word Sort = codes "sort"
 
 abbrev pub reason : RestFault → List ℕ

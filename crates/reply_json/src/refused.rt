@@ -84,9 +84,11 @@ fn limit_word(name: LimitName) -> &'static str
         LimitName::Id => "id",
         LimitName::Shards => "shards",
         LimitName::Fields => "fields",
+        LimitName::Batch => "batch",
         LimitName::Pit => "pit",
         LimitName::From => "from",
         LimitName::Window => "window",
+        LimitName::Slice => "slice",
         LimitName::Sort => "sort",
     }
 }

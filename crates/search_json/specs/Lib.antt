@@ -2,4 +2,5 @@ pub mod Ids
 pub mod Values
 pub mod Queries
 pub mod Sorts
+pub mod Slices
 pub mod Searches

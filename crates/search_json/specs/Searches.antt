@@ -1,14 +1,16 @@
 -- What the body of a search asks for, and in which order a bad one is refused: what is no JSON (RFC 8259), then what isn't
 -- built, then another form, then a limit that is broken. The members are those of Elasticsearch's reference, "Search API"
--- and "Paginate search results": `query`, `size`, `from`, `sort`, `pit`, `search_after` and `track_total_hits`.
+-- and "Paginate search results": `query`, `size`, `from`, `sort`, `pit`, `search_after`, `slice`
+-- and `track_total_hits`.
 use Rattle.std.specs.Prelude.{ℕ, ◌+◌, ◌&&◌, ◌||◌, not, nat_lt, Bool, true, if◌then◌else◌, List, [], ◌∷◌, map, is_some, Option, Some, None, option_map, option_and_then, Result, Ok, Err, codes}
 use Rattle.std.specs.Option.{option_map_or}
 use Rattle.serde_json.specs.Data.{Data}
 use Rattle.serde_json.specs.Find.{as_bool, as_str, get}
 use Rattle.es_types.specs.declared.limit.LimitName.{LimitName}
-use Rattle.es_types.specs.declared.limit.LimitName.TheVariants.{From, Pit, Sort, Window}
+use Rattle.es_types.specs.declared.limit.LimitName.TheVariants.{From, Pit, Sort, Window, Slice as SliceLimit}
 use Rattle.es_query.specs.declared.query.Query.{Query, All}
 use Rattle.es_sort.specs.declared.sort.Keys.{Keys}
+use Rattle.slice_rule.specs.declared.slice.Slice.{Slice}
 use Rattle.list_machine.specs.declared.search.SearchRequest.{SearchRequest}
 use Rattle.doc_json.specs.declared.fault.BodyFault.{BodyFault}
 use Rattle.doc_json.specs.declared.fault.BodyFault.TheVariants.{Limit, NotBuilt, Shape}
@@ -19,6 +21,7 @@ use Rattle.search_json.specs.declared.search.SearchBody.{SearchBody}
 use Rattle.search_json.specs.declared.sort.NamedKey.{NamedKey}
 use Rattle.search_json.specs.Ids.{pit_number}
 use Rattle.search_json.specs.Queries.{query_of}
+use Rattle.search_json.specs.Slices.{breaks_slice, slice_of}
 use Rattle.search_json.specs.Sorts.{after_of, breaks_sort, sort_key, sort_of}
 use Rattle.search_json.specs.Values.{small_of}
 
@@ -57,13 +60,13 @@ asked_of value = asked_in (get (codes "query") value)
 
 -- ---- what isn't built
 
--- a point in time that is kept open longer, or one that wasn't opened in this run
-unfoldable pub is_pit_unbuilt : Option ℕ → Data → Bool
-is_pit_unbuilt named value =
-    is_some (option_and_then (get (codes "keep_alive")) (get (codes "pit") value)) || (is_some (pit_id value) && not (is_some named))
+-- the point in time is kept open longer
+unfoldable pub is_kept_longer : Data → Bool
+is_kept_longer value = is_some (option_and_then (get (codes "keep_alive")) (get (codes "pit") value))
 
+-- or it wasn't opened in this run
 unfoldable pub is_unbuilt : Option ℕ → Data → Bool
-is_unbuilt named value = has (codes "slice") value || is_pit_unbuilt named value
+is_unbuilt named value = is_kept_longer value || (is_some (pit_id value) && not (is_some named))
 
 -- ---- the form
 
@@ -77,60 +80,65 @@ has_track_form value = option_map_or (λ track. is_some (as_bool track)) (get (c
 
 unfoldable pub has_form : Data → Bool
 has_form value =
-    is_form (codes "query" ∷ codes "size" ∷ codes "from" ∷ codes "sort" ∷ codes "pit" ∷ codes "search_after" ∷ codes "track_total_hits" ∷ []) value
+    is_form (codes "query" ∷ codes "size" ∷ codes "from" ∷ codes "sort" ∷ codes "pit" ∷ codes "search_after" ∷ codes "slice" ∷ codes "track_total_hits" ∷ []) value
     && (has_pit_form value && has_track_form value)
 
 -- ---- limits
 
--- how many hits are left out, how many are wanted, and behind which values
-abbrev pub span_of : ℕ → ℕ → Option Keys → Span
-span_of from size after = record { from = from; size = size; after = after }
+-- how many hits are left out, how many are wanted, of which slice, and behind which values
+abbrev pub span_of : ℕ → ℕ → Option Slice → Option Keys → Span
+span_of from size slice after = record { from = from; size = size; after = after; slice = slice }
 
--- The first limit that is broken: either the path names an index or the body a point in time, hits are left out only where no
--- values are given to go on behind, at most 10,000 hits are left out and wanted together, and then the keys of the sort.
+-- The first limit that is broken: either the path names an index or the body a point in time, a slice is one of a point in time,
+-- hits are left out only where no values are given to go on behind, at most 10,000 hits are left out and wanted together, there
+-- can be such a slice, and then the keys of the sort.
 abbrev pub broken : Bool → Bool → Span → List NamedKey → Option LimitName
 broken has_index in_pit span keys =
-    if (if has_index then in_pit else not in_pit) then Some Pit
+    if (if has_index then in_pit else not in_pit) || (is_some span.slice && not in_pit) then Some Pit
     else (if is_some span.after && nat_lt 0 span.from then Some From
     else (if nat_lt 10000 (span.from + span.size) then Some Window
-    else (if breaks_sort in_pit keys then Some Sort else None)))
+    else (if breaks_slice span.slice then Some SliceLimit
+    else (if breaks_sort in_pit keys then Some Sort else None))))
 
 -- ---- the whole
 
--- A hit shows its place where the search is of a point in time. The tops of shards are brought together 512 at a time.
-abbrev pub request_of : Option ℕ → Span → List NamedKey → Query → SearchRequest
-request_of named span keys query = record {
+-- a hit shows its place where the search is of a point in time
+abbrev pub request_of : Option ℕ → ℕ → Span → List NamedKey → Query → SearchRequest
+request_of named batch span keys query = record {
   query = query;
   sort = record { keys = map sort_key keys; show_place = is_some named };
   from = span.from;
   size = span.size;
   after = span.after;
-  batch = 512;
+  slice = span.slice;
+  batch = batch;
 }
 
 abbrev pub judged_limits : Option LimitName → SearchRequest → Option ℕ → Result SearchBody BodyFault
 judged_limits (Some name) request named = Err (Limit name)
 judged_limits None request named = Ok (record { request = request; pit = named })
 
-abbrev pub limited : Bool → Option ℕ → Span → List NamedKey → Query → Result SearchBody BodyFault
-limited has_index named span keys query = judged_limits (broken has_index (is_some named) span keys) (request_of named span keys query) named
+abbrev pub limited : Bool → Option ℕ → ℕ → Span → List NamedKey → Query → Result SearchBody BodyFault
+limited has_index named batch span keys query = judged_limits (broken has_index (is_some named) span keys) (request_of named batch span keys query) named
 
 -- these of a body
 unfoldable pub span_in : Data → Option Span
 span_in value =
-    option_and_then (λ from. option_and_then (λ size. option_map (span_of from size) (after_of value)) (size_of value)) (from_of value)
+    option_and_then (λ from. option_and_then (λ size. option_and_then (λ slice. option_map (span_of from size slice) (after_of value))
+    (slice_of value)) (size_of value)) (from_of value)
 
-unfoldable pub asked : Bool → Option ℕ → Data → Result SearchBody BodyFault
-asked has_index named value =
+unfoldable pub asked : Bool → Option ℕ → ℕ → Data → Result SearchBody BodyFault
+asked has_index named batch value =
     form_then (span_in value) (λ span. form_then (sort_of value) (λ keys. form_then (asked_of value) (λ query.
-    limited has_index named span keys query)))
+    limited has_index named batch span keys query)))
 
-unfoldable pub judged : Bool → Option ℕ → Data → Result SearchBody BodyFault
-judged has_index named value =
+unfoldable pub judged : Bool → Option ℕ → ℕ → Data → Result SearchBody BodyFault
+judged has_index named batch value =
     if is_unbuilt named value then Err NotBuilt
-    else (if has_form value then asked has_index named value else Err Shape)
+    else (if has_form value then asked has_index named batch value else Err Shape)
 
--- what a body asks for where the path names an index or doesn't, and the points in time 1 to newest were opened.
--- An empty body counts as `{}`.
-unfoldable pub search_of : Bool → ℕ → List ℕ → Result SearchBody BodyFault
-search_of has_index newest body = json_then (data_of (filled body)) (λ value. judged has_index (pit_named newest value) value)
+-- what a body asks for where the path names an index or doesn't, the points in time 1 to newest were opened, and so many shards
+-- make a batch. An empty body counts as `{}`.
+unfoldable pub search_of : Bool → ℕ → ℕ → List ℕ → Result SearchBody BodyFault
+search_of has_index newest batch body =
+    json_then (data_of (filled body)) (λ value. judged has_index (pit_named newest value) batch value)

@@ -6,6 +6,7 @@ mod ids;
 mod names;
 mod query;
 mod search;
+mod slice;
 mod sort;
 mod value;
 

@@ -1,12 +1,14 @@
-ghost use Rattle.std.specs.Prelude.{◌≡◌, ◌+◌, ◌≤◌, IfNone, IfOk, length, option_map};
+ghost use Rattle.std.specs.Prelude.{◌≡◌, ◌+◌, ◌≤◌, IfNone, IfOk, IfSome, length, option_map};
 ghost use Rattle.serde_json.specs.View.{view};
 ghost use Rattle.es_types.specs.Fail.{Answers};
+ghost use Rattle.slice_rule.specs.Parts.{IsSlice};
 ghost use Rattle.list_machine.specs.Run.{IsWithinLimits};
-ghost use Rattle.search_json.specs.Searches.{asked, asked_of, broken, count_in, from_of, has_form, has_pit_form, has_track_form, is_pit_unbuilt, is_unbuilt, judged, limited, pit_id, pit_named, search_of, size_of, span_in};
+ghost use Rattle.search_json.specs.Searches.{asked, asked_of, broken, count_in, from_of, has_form, has_pit_form, has_track_form, is_kept_longer, is_unbuilt, judged, limited, pit_id, pit_named, search_of, size_of, span_in};
 
 use crate::after::after_of;
 use crate::ids::pit_number;
 use crate::query::query_of;
+use crate::slice::{breaks_slice, slice_of};
 use crate::sort::{NamedKey, breaks_sort, sort_keys, sort_of};
 use crate::value::small_of;
 use doc_json::{BodyFault, filled, is_form, read_data};
@@ -15,6 +17,7 @@ use es_sort::{Keys, SortSpec};
 use es_types::{Fail, Items, LimitName, NoMemory};
 use list_machine::SearchRequest;
 use serde_json::Value;
+use slice_rule::Slice;
 use std::alloc::Global;
 
 /// The most hits that a search may leave out and ask for together.
@@ -23,15 +26,13 @@ const WINDOW_LIMIT: u64 = 10_000;
 /// How many hits a search gets that doesn't say it.
 const USUAL_SIZE: u32 = 10;
 
-/// The tops of how many shards are brought together at a time.
-const USUAL_BATCH: u32 = 512;
-
-/// How many hits a search leaves out, how many it wants, and behind which values.
+/// How many hits a search leaves out, how many it wants, behind which values, and of which slice.
 #[derive(Drop)]
 struct Span {
     from: u32,
     size: u32,
     after: Option<Keys>,
+    slice: Option<Slice>,
 }
 
 /// What the body of a search asks for, and the point in time that it names.
@@ -41,8 +42,8 @@ pub struct SearchBody {
     pub pit: Option<u64>,
 }
 
-/// What the body of a search asks for. `has_index` says that the path names an index, and the points in time 1 to `newest`
-/// were opened in this run. An empty body counts as `{}`.
+/// What the body of a search asks for. `has_index` says that the path names an index, the points in time 1 to `newest` were
+/// opened in this run, and `batch` shards make a batch, which has 2 to 1,024. An empty body counts as `{}`.
 ///
 /// A body that is no JSON is told first, then what isn't built, then a form that is wrong, then a limit that is broken.
 #[tactic(auto, unfolding(crate::specs::Searches::search_of))]
@@ -51,15 +52,18 @@ pub fn read_search(
     body: &[u8],
     has_index: bool,
     newest: u64,
+    batch: u32,
 ) -> Result<SearchBody, Fail<BodyFault>>
-    ensures read { Answers result (search_of has_index newest body.now) }
+    requires batch_least { 2 ≤ batch }
+    requires batch_most { batch ≤ 1024 }
+    ensures read { Answers result (search_of has_index newest batch body.now) }
     ensures within { IfOk result (λ it. IsWithinLimits it.request) }
 {
     let Some(value) = read_data(alloc, filled(body))? else {
         return Err(Fail::Is(BodyFault::NotJson));
     };
     let named = pit_named(alloc, newest, &value)?;
-    judged(alloc, has_index, named, &value)
+    judged(alloc, has_index, named, batch, &value)
 }
 
 #[tactic(auto, unfolding(crate::specs::Searches::judged))]
@@ -67,9 +71,12 @@ fn judged(
     alloc: Global,
     has_index: bool,
     named: Option<u64>,
+    batch: u32,
     value: &Value,
 ) -> Result<SearchBody, Fail<BodyFault>>
-    ensures judged { Answers result (judged has_index named (view value.now)) }
+    requires batch_least { 2 ≤ batch }
+    requires batch_most { batch ≤ 1024 }
+    ensures judged { Answers result (judged has_index named batch (view value.now)) }
     ensures within { IfOk result (λ it. IsWithinLimits it.request) }
 {
     if is_unbuilt(named, value) {
@@ -78,7 +85,7 @@ fn judged(
     if !has_form(value) {
         return Err(Fail::Is(BodyFault::Shape));
     }
-    asked(alloc, has_index, named, value)
+    asked(alloc, has_index, named, batch, value)
 }
 
 #[tactic(auto, unfolding(crate::specs::Searches::asked))]
@@ -86,9 +93,12 @@ fn asked(
     alloc: Global,
     has_index: bool,
     named: Option<u64>,
+    batch: u32,
     value: &Value,
 ) -> Result<SearchBody, Fail<BodyFault>>
-    ensures asked { Answers result (asked has_index named (view value.now)) }
+    requires batch_least { 2 ≤ batch }
+    requires batch_most { batch ≤ 1024 }
+    ensures asked { Answers result (asked has_index named batch (view value.now)) }
     ensures within { IfOk result (λ it. IsWithinLimits it.request) }
 {
     let Some(span) = span_in(alloc, value)? else {
@@ -100,7 +110,7 @@ fn asked(
     let Some(query) = asked_of(alloc, value)? else {
         return Err(Fail::Is(BodyFault::Shape));
     };
-    limited(alloc, has_index, named, span, keys, query)
+    limited(alloc, has_index, named, batch, span, keys, query)
 }
 
 // What is asked for, where it breaks no limit.
@@ -108,17 +118,25 @@ fn limited(
     alloc: Global,
     has_index: bool,
     named: Option<u64>,
+    batch: u32,
     span: Span,
     keys: Vec<NamedKey>,
     query: Query,
 ) -> Result<SearchBody, Fail<BodyFault>>
-    ensures limited { Answers result (limited has_index named span keys.items query) }
+    requires batch_least { 2 ≤ batch }
+    requires batch_most { batch ≤ 1024 }
+    ensures limited { Answers result (limited has_index named batch span keys.items query) }
     ensures within { IfOk result (λ it. IsWithinLimits it.request) }
 {
     if let Some(name) = broken(has_index, named.is_some(), &span, &keys) {
         return Err(Fail::Is(BodyFault::Limit(name)));
     }
-    let Span { from, size, after } = span;
+    let Span {
+        from,
+        size,
+        after,
+        slice,
+    } = span;
     let sort = SortSpec {
         keys: Items::of(sort_keys(alloc, keys)?),
         show_place: named.is_some(),
@@ -129,7 +147,8 @@ fn limited(
         from,
         size,
         after,
-        batch: USUAL_BATCH,
+        slice,
+        batch,
     };
     Ok(SearchBody {
         request,
@@ -141,9 +160,10 @@ fn limited(
 fn broken(has_index: bool, in_pit: bool, span: &Span, keys: &[NamedKey]) -> Option<LimitName>
     ensures first { result ≡ broken has_index in_pit span.now keys.now }
     ensures window { IfNone result (span.now.from + span.now.size ≤ 10000) }
+    ensures slice { IfNone result (IfSome span.now.slice IsSlice) }
     ensures keys { IfNone result (length keys.now ≤ 64) }
 {
-    if has_index == in_pit {
+    if has_index == in_pit || (span.slice.is_some() && !in_pit) {
         return Some(LimitName::Pit);
     }
     if span.after.is_some() && span.from > 0 {
@@ -151,6 +171,9 @@ fn broken(has_index: bool, in_pit: bool, span: &Span, keys: &[NamedKey]) -> Opti
     }
     if span.from as u64 + span.size as u64 > WINDOW_LIMIT {
         return Some(LimitName::Window);
+    }
+    if breaks_slice(span.slice) {
+        return Some(LimitName::Slice);
     }
     if breaks_sort(in_pit, keys) {
         return Some(LimitName::Sort);
@@ -194,7 +217,7 @@ fn count_in(usual: u32, count: Option<&Value>) -> Option<u32>
     }
 }
 
-// How many hits are left out, how many are wanted, and behind which values.
+// How many hits are left out, how many are wanted, behind which values, and of which slice.
 #[tactic(auto, unfolding(crate::specs::Searches::span_in))]
 fn span_in(alloc: Global, value: &Value) -> Result<Option<Span>, NoMemory>
     ensures { IfOk result (λ span. span ≡ span_in (view value.now)) }
@@ -205,8 +228,16 @@ fn span_in(alloc: Global, value: &Value) -> Result<Option<Span>, NoMemory>
     let Some(size) = size_of(value) else {
         return Ok(None);
     };
+    let Some(slice) = slice_of(value) else {
+        return Ok(None);
+    };
     match after_of(alloc, value)? {
-        Some(after) => Ok(Some(Span { from, size, after })),
+        Some(after) => Ok(Some(Span {
+            from,
+            size,
+            after,
+            slice,
+        })),
         None => Ok(None),
     }
 }
@@ -237,22 +268,22 @@ fn asked_of(alloc: Global, value: &Value) -> Result<Option<Query>, NoMemory>
 
 // ---- what isn't built
 
+// Whether the point in time is kept open longer.
+#[tactic(auto, unfolding(crate::specs::Searches::is_kept_longer))]
+fn is_kept_longer(value: &Value) -> bool
+    ensures { result ≡ is_kept_longer (view value.now) }
+{
+    match value.get("pit") {
+        Some(pit) => pit.get("keep_alive").is_some(),
+        None => false,
+    }
+}
+
 #[tactic(auto, unfolding(crate::specs::Searches::is_unbuilt))]
 fn is_unbuilt(named: Option<u64>, value: &Value) -> bool
     ensures { result ≡ is_unbuilt named (view value.now) }
 {
-    value.get("slice").is_some() || is_pit_unbuilt(named, value)
-}
-
-#[tactic(auto, unfolding(crate::specs::Searches::is_pit_unbuilt))]
-fn is_pit_unbuilt(named: Option<u64>, value: &Value) -> bool
-    ensures { result ≡ is_pit_unbuilt named (view value.now) }
-{
-    let is_kept_alive = match value.get("pit") {
-        Some(pit) => pit.get("keep_alive").is_some(),
-        None => false,
-    };
-    is_kept_alive || (pit_id(value).is_some() && named.is_none())
+    is_kept_longer(value) || (pit_id(value).is_some() && named.is_none())
 }
 
 // ---- the form
@@ -270,6 +301,7 @@ fn has_form(value: &Value) -> bool
             "sort",
             "pit",
             "search_after",
+            "slice",
             "track_total_hits",
         ],
     ) && has_pit_form(value)

@@ -1,5 +1,5 @@
 -- Which slices have places of a shard.
-use Rattle.std.proofs.Common.{◌≡◌, ◌≢◌, ℕ, ◌+◌, ◌*◌, ◌<◌, ◌≤◌, ◌/◌, ◌%◌, false, ◌==◌, ◌&&◌, inl, inr, sym, ap, ◌∙◌, arith, zero-add}
+use Rattle.std.proofs.Common.{◌≡◌, ◌≢◌, ℕ, ◌+◌, ◌*◌, ◌<◌, ◌≤◌, ◌/◌, ◌%◌, false, ◌==◌, ◌&&◌, inl, inr, sym, subst, ap, ◌∙◌, arith, zero-add}
 use Rattle.std.proofs.Math.Nat.{add-mul-div_left, add-mul-mod_self_left, div-add-mod, div-eq_of_lt, mod-eq_of_lt, mod-lt, mul-le-mul_left}
 use Rattle.std.proofs.lemmas.Bool.{cases_eq, cases_lt, cond-false, cond-true, eq-eqb, le-leb, lt-leb, lt-ltb, ne_eqb}
 use Rattle.std.proofs.lemmas.Bool.Decides.{nat_tests}
@@ -52,3 +52,19 @@ is_sharing max shards shard id there within goes_by =
       | inl less ↦ omega arith
       | inr more ↦ absurd (omega (arith, all_share max shards shard there, mul-le-mul_left shards more))
     ]
+
+-- the slice that has a place is one of them
+pub part_below : (max shards shard rank : ℕ) → 1 ≤ max → shard < shards → part max shards shard rank < max
+part_below max shards shard rank some there = elim (cases_lt max shards) [
+  | inl fewer ↦ subst (λ n. n < max) (sym (whole_shard max shards shard rank fewer)) (mod-lt shard some)
+  | inr enough ↦
+      let whole : shards * (max / shards) + max % shards ≡ max = div-add-mod max shards in
+      let less : max % shards < shards = mod-lt max (omega arith) in
+      let c : ℕ = sharing max shards shard in
+      let each : 1 ≤ max / shards = grind (arith, nat_tests) in
+      let one : 1 ≤ c = grind (arith, nat_tests) in
+      let own : rank % c + 1 ≤ c = omega (arith, mod-lt rank one) in
+      let up_to : shards * (rank % c + 1) ≤ shards * c = mul-le-mul_left shards own in
+      let all : shard + shards * c < max + shards = grind (arith, nat_tests) in
+      subst (λ n. n < max) (sym (cond-true _ _ _ (le-leb shards max enough))) (omega (arith, up_to, all))
+]

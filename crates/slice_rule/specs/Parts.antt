@@ -1,10 +1,17 @@
 -- Which slice has a place: that of a rank in a shard, where there are so many slices and so many shards. Slices are laid over
 -- the shards first, and over their documents where there are more slices than shards (Elasticsearch's reference, "Paginate
 -- search results", on search slicing). How they are laid there is this service's own rule.
-use Rattle.std.specs.Prelude.{◌≤◌, ℕ, ◌+◌, ◌*◌, ◌/◌, ◌%◌, nat_le, nat_lt, Bool, true, false, ◌==◌, ◌&&◌, if◌then◌else◌, List}
+use Rattle.std.specs.Prelude.{◌≤◌, ◌<◌, ℕ, ◌+◌, ◌*◌, ◌/◌, ◌%◌, nat_le, nat_lt, Bool, true, false, ◌==◌, ◌&&◌, if◌then◌else◌, List}
 use Rattle.std.specs.List.{list_any, range_with_len}
 use Rattle.slice_rule.specs.declared.cover.Cover.{Cover}
 use Rattle.slice_rule.specs.declared.cover.Cover.TheVariants.{None, All, Part}
+use Rattle.slice_rule.specs.declared.slice.Slice.{Slice}
+
+-- a slice that there can be: one of 2 to 1,024
+pub record IsSlice (slice : Slice) : Type 0 where
+  pub some : 2 ≤ slice.max
+  pub few : slice.max ≤ 1024
+  pub within : slice.id < slice.max
 
 -- how many slices share a shard, where there are at least as many slices as shards
 abbrev pub sharing : ℕ → ℕ → ℕ → ℕ

@@ -1,5 +1,5 @@
 ghost use Rattle.std.specs.Prelude.{◌≡◌, ◌<◌, ◌==◌, ℕ, not};
-ghost use Rattle.slice_rule.specs.Parts.{IsFine, covers, has, is_none, part};
+ghost use Rattle.slice_rule.specs.Parts.{IsFine, IsSlice, covers, has, is_none, part};
 
 use crate::Slice;
 use crate::rule::sharing;
@@ -15,7 +15,8 @@ pub enum Cover {
 impl Slice {
     /// What the slice has of a shard, of so many.
     pub fn cover(&self, shard: u32, shards: u32) -> Cover
-        requires { shard < shards }
+        requires slice { IsSlice self.now }
+        requires there { shard < shards }
         ensures is { (rank : ℕ) → has result rank ≡ (part self.now.max shards shard rank == self.now.id) }
         ensures fine { IsFine result }
         ensures none { is_none result ≡ not (covers self.now.max shards shard self.now.id) }

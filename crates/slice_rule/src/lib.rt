@@ -3,9 +3,11 @@
 #![tactic(auto)]
 
 mod cover;
+mod law;
 mod rule;
 mod slice;
 
 pub use cover::{Cover, has};
+pub use law::each_place_has_a_slice;
 pub use rule::part;
 pub use slice::{BadSlice, Slice};

@@ -4,6 +4,7 @@ use Rattle.std.proofs.lemmas.List.{get_or-map, length-map}
 use Rattle.es_types.specs.declared.row.Row.{Row}
 use Rattle.list_machine.specs.declared.view.ShardRef.{ShardRef}
 use Rattle.list_machine.specs.Stores.{view_at}
+use Rattle.list_machine.specs.Views.{is_wanted}
 use Rattle.list_machine.proofs.Matching.{adds_shard, bounded_at}
 use Rattle.list_machine.proofs.StoreLemmas.{All-from_map, All-read}
 use Rattle.list_machine.proofs.candidates.candidates.Goals as goal
@@ -27,4 +28,4 @@ loop-at-preserved c =
     let less : at < length shards = omega (arith, c.loop-at-test.true) in
     let there : shard.rows.now ≡ get_or (map rows_of shards) at shard.rows.now =
     ap rows_of c.shard-item.is ∙ sym (get_or-map rows_of shards at shard shard.rows.now less) in
-    adds_shard (view_at c.args.view.now) request.query request.sort (map rows_of shards) at shard.rows.now c.loop-at.them.items c.look_at.new.them.items (omega (arith, less, length-map shards rows_of)) there c.loop-at.invariant c.in_ok-look_at.ensures
+    adds_shard (view_at c.args.view.now) request.sort (is_wanted (view_at c.args.view.now) request.query request.slice) (map rows_of shards) at shard.rows.now c.loop-at.them.items c.look_at.new.them.items (omega (arith, less, length-map shards rows_of)) there c.loop-at.invariant c.in_ok-look_at.ensures

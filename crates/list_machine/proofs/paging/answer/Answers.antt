@@ -5,14 +5,14 @@ use Rattle.list_machine.specs.declared.view.ShardRef.{ShardRef}
 use Rattle.list_machine.specs.Paging.{AreCandidates, place_seen}
 use Rattle.list_machine.specs.Stores.{view_at}
 use Rattle.list_machine.specs.Views.{enumeration, is_beyond}
-use Rattle.list_machine.proofs.PageLemmas.{answer_is, beyond_are, skipped_is}
+use Rattle.list_machine.proofs.PageLemmas.{answer_is, beyond_are}
 use Rattle.list_machine.proofs.paging.answer.Goals as goal
 
 pub page_of-requires : goal.page_of-requires
 page_of-requires c =
     let view = view_at c.args.view.now in
     let request = c.args.request.now in
-    let all = enumeration view request.query request.sort in
+    let all = enumeration view request.query request.sort request.slice in
     subst (λ (them : List Candidate). AreCandidates view request.sort (filter (is_beyond view request.sort request.after) all) them) (sym (c.deref.ensures.value ∙ c.beyond-left.ensures))
     (beyond_are view request.sort request.after all c.in_ok-found.found.items c.in_ok-found.ensures)
 
@@ -20,9 +20,9 @@ pub returns : goal.returns
 returns c =
     let view = c.args.view.now in
     let request = c.args.request.now in
-    answer_is (view_at view) request request.from _ c.count_excluded-skipped.result c.phases.result c.len-total.result c.of.result
+    answer_is (view_at view) request request.from _ c.count_skipped-skipped.result c.phases.result c.len-total.result c.of.result
     (sym (length-map view.shards.now (λ (shard : ShardRef). shard.rows.now)))
-    (c.count_excluded-skipped.ensures.is ∙ skipped_is view request.query c.requires.bounded)
+    c.count_skipped-skipped.ensures.is
     c.phases.ensures
     (omega (arith, c.len-total.ensures, length-map c.in_ok-found.found.items place_seen, ap length c.in_ok-found.ensures.are))
     (c.of.ensures ∙ c.in_ok-hits.ensures)

@@ -1,0 +1,242 @@
+//! Histories of `list_machine` and `es_core`: both give the same replies to the same events.
+ghost use Rattle.std.specs.Prelude.{◌≡◌, ◌+◌, ◌<◌, ◌^◌, OnOk};
+ghost use Rattle.list_machine.specs.Run.{IsBounded, PutsObject};
+
+use crate::events::{event, moment};
+use crate::replies::said;
+use es_core::{Brought, Core, Turned};
+use es_types::{Moment, NoMemory};
+use list_machine::{
+    Entry, Event, Limits, Machine, Reply, one_enumeration, pages_in_turn, slices_share_out,
+    sound_states,
+};
+use slice_rule::each_place_has_a_slice;
+use std::alloc::Global;
+use std::process::Abort;
+use std::test::Fail;
+
+// The drop of an entry stands here alone, and that of an event in the next one. Each step is one entry.
+fn take_step(machine: &mut Machine, entry: Entry) -> Result<Reply, NoMemory>
+    requires early { machine.old.entries < 2 ^ 53 }
+    requires bounded { IsBounded entry.event }
+    ensures { OnOk result (machine.new.entries ≡ machine.old.entries + 1) }
+{
+    machine.step(&entry)
+}
+
+fn take_turn(core: &mut Core, event: Event, moment: Moment) -> Result<Turned, NoMemory>
+    requires object { PutsObject event }
+    requires bounded { IsBounded event }
+{
+    core.turn(&event, moment, Brought::Nothing)
+}
+
+fn ask_machine(alloc: Global, machine: &mut Machine, asked: &str) -> Result<Reply, Fail>
+    requires { machine.old.entries < 2 ^ 53 }
+    ensures { OnOk result (machine.new.entries ≡ machine.old.entries + 1) }
+{
+    let moment = moment(asked)?;
+    let event = event(alloc, asked)?;
+    let who = 0;
+    Ok(take_step(machine, Entry { who, moment, event })?)
+}
+
+fn ask_core(alloc: Global, core: &mut Core, asked: &str) -> Result<Reply, Fail> {
+    let moment = moment(asked)?;
+    let event = event(alloc, asked)?;
+    let Turned::Now(reply) = take_turn(core, event, moment)?;
+    Ok(reply)
+}
+
+// Each line begins with milliseconds and ends with the reply that it has to have of both.
+fn play(
+    rt: &impl Abort,
+    alloc: Global,
+    machine: &mut Machine,
+    core: &mut Core,
+    history: &str,
+) -> Result<(), Fail>
+    requires { machine.old.entries ≡ 0 }
+{
+    let mut steps = 0u64;
+    for line in history.lines() {
+        if line.is_empty() || line.starts_with('#') {
+            continue;
+        }
+        let (asked, want) = line.split_once(" -> ").ok_or("a reply")?;
+        assert!(rt; steps < 100);
+        steps += 1;
+        let found = said(alloc, ask_machine(alloc, machine, asked)?)?;
+        assert_eq!(rt; found.as_str(), want, "the machine at {asked}");
+        let found = said(alloc, ask_core(alloc, core, asked)?)?;
+        assert_eq!(rt; found.as_str(), want, "the core at {asked}");
+    }
+    Ok(())
+}
+
+// Plays a history from the start, on the machine and on the core.
+fn plays(rt: &impl Abort, alloc: Global, history: &str) -> Result<(), Fail> {
+    let limits = Limits {
+        pits: 1,
+        entries: 100,
+    };
+    let mut machine = Machine::make(alloc, limits)?;
+    let mut core = Core::make(alloc, limits)?;
+    let played = play(rt, alloc, &mut machine, &mut core, history);
+    assert_eq!(rt; core.totals().left, 0);
+    assert_eq!(rt; core.finish().left, 0);
+    played
+}
+
+const ONE_INDEX: &str = "
+0 put docs a -> created 1
+0 put docs a -> updated 2
+0 remove docs b -> not found 3
+0 seal docs -> sealed [3]
+0 seal other -> no index
+0 quiet -> done
+";
+
+// A view stays as it was when it was opened.
+const VIEWS: &str = "
+0 put docs b -> created 1
+0 put docs a -> created 2
+0 put docs c -> created 3
+0 publish docs 0 3 -> done
+5 open docs -> opened 1
+5 remove docs a -> deleted 4
+5 publish docs 0 4 -> done
+5 search 1 -> 2 of 3 docs b 0 docs a 1
+5 search 1 1 -> 1 of 3 docs c 2
+# It is live up to one minute behind its opening, and moments never fall.
+5 open docs -> too many 1
+60005 search 1 2 -> 0 of 3
+60006 search 1 -> missing
+5 search 1 -> missing
+5 open docs -> opened 2
+5 search 2 -> 2 of 2 docs b 0 docs c 1
+";
+
+#[test]
+fn histories(rt: HostRuntime) -> Result<(), Fail> {
+    let alloc = rt.alloc();
+    plays(&rt, alloc, ONE_INDEX)?;
+    plays(&rt, alloc, VIEWS)?;
+    pages_in_turn();
+    sound_states();
+    one_enumeration();
+    slices_share_out();
+    each_place_has_a_slice();
+    Ok(())
+}
+
+const SHARDS: &str = "
+0 create docs -> exists
+0 put logs a n=1 -> no index
+0 create logs -> done
+0 create logs -> exists
+# A refused write takes no number of its shard.
+0 put logs c n=1 -> created 1
+0 put logs d n=x -> kind 0
+0 put logs d n=2 -> created 2
+0 put logs a -> created 1
+0 put logs e n=3 -> created 1
+0 remove logs e -> deleted 2
+0 put docs a n=x -> created 1
+0 seal logs -> sealed [1, 0, 0, 2, 2]
+# Shards are published one by one, up to what was sealed.
+0 publish logs 3 1 -> done
+0 publish logs 0 1 -> done
+0 publish logs 4 2 -> done
+0 publish logs 9 2 -> done
+0 open other -> no index
+0 open logs -> opened 1
+0 search 1 -> 2 of 2 logs a 0 logs c 12884901888 skipped 3 of 5
+60001 search 7 -> missing
+60001 open docs -> opened 2
+60001 search 2 -> 0 of 0 skipped 1 of 1
+# A search of an index sees what was published last. Shards that have no such value are skipped.
+0 find other n 1 -> no index
+0 find logs n x -> bad query
+0 find logs n 1 -> 1 of 1 logs c skipped 4 of 5
+0 find logs n 2 -> 0 of 0 skipped 5 of 5
+0 find logs m 1 -> 0 of 0 skipped 5 of 5
+0 publish logs 3 2 -> done
+0 find logs n 2 -> 1 of 1 logs d skipped 4 of 5
+0 put logs d n=1 -> updated 3
+0 find logs n 2 -> 1 of 1 logs d skipped 4 of 5
+0 publish logs 3 3 -> done
+0 find logs n 2 -> 0 of 0 skipped 5 of 5
+0 find logs n 1 -> 2 of 2 logs c logs d skipped 4 of 5
+";
+
+const SORTED: &str = "
+0 create logs -> done
+0 put logs a n=3 -> created 1
+0 put logs b n=1 -> created 1
+0 put logs c -> created 1
+0 put logs d n=2 -> created 2
+0 put logs f n=2 -> created 1
+0 publish logs 0 1 -> done
+0 publish logs 1 1 -> done
+0 publish logs 2 1 -> done
+0 publish logs 3 2 -> done
+# Five documents: f and d are equal, and c has no number. The first hit is left out.
+0 order logs n asc -> 2 of 5 logs f 2 logs d 2 in 2 steps skipped 1 of 5
+0 order logs n desc -> 2 of 5 logs f 2 logs d 2 in 2 steps skipped 1 of 5
+# Behind a value it is left out too, and all are counted.
+0 order logs n asc 1 -> 2 of 5 logs d 2 logs a 3 in 2 steps skipped 1 of 5
+0 order logs n desc 3 -> 2 of 5 logs d 2 logs b 1 in 2 steps skipped 1 of 5
+0 order logs n asc 3 -> 0 of 5 in 2 steps skipped 1 of 5
+0 order logs m asc -> bad sort
+0 order logs n asc x -> bad after
+0 order logs m asc x -> bad sort
+0 open logs -> opened 1
+0 search 1 -> 2 of 5 logs a 0 logs f 4294967296 skipped 1 of 5
+";
+
+#[test]
+fn indexes_and_shards(rt: HostRuntime) -> Result<(), Fail> {
+    plays(&rt, rt.alloc(), SHARDS)
+}
+
+#[test]
+fn searches_in_order(rt: HostRuntime) -> Result<(), Fail> {
+    plays(&rt, rt.alloc(), SORTED)
+}
+
+// Slices of an index of one shard share its places by their ranks, those of five shards whole shards, or by both.
+const SLICED: &str = "
+0 put docs b -> created 1
+0 put docs a -> created 2
+0 put docs c -> created 3
+0 publish docs 0 3 -> done
+0 open docs -> opened 1
+0 slice 1 0 2 -> 2 of 2 docs b 0 docs c 2
+0 slice 1 1 2 -> 1 of 1 docs a 1
+0 slice 1 3 1024 -> 0 of 0
+60001 create logs -> done
+60001 put logs a n=1 -> created 1
+60001 put logs b n=1 -> created 1
+60001 put logs c n=1 -> created 1
+60001 put logs d n=1 -> created 2
+60001 put logs f n=1 -> created 1
+60001 publish logs 0 1 -> done
+60001 publish logs 1 1 -> done
+60001 publish logs 2 1 -> done
+60001 publish logs 3 2 -> done
+60001 open logs -> opened 2
+# Shards that the slice doesn't cover are skipped, and the last one, which has no documents.
+60001 slice 2 0 2 -> 2 of 2 logs a 0 logs b 8589934592 skipped 3 of 5
+60001 slice 2 1 2 -> 2 of 3 logs f 4294967296 logs c 12884901888 skipped 3 of 5
+60001 slice 2 3 5 -> 2 of 2 logs c 12884901888 logs d 12884901889 skipped 4 of 5
+60001 slice 2 4 5 -> 0 of 0 skipped 5 of 5
+60001 slice 2 3 9 -> 1 of 1 logs c 12884901888 skipped 4 of 5
+60001 slice 2 8 9 -> 1 of 1 logs d 12884901889 skipped 4 of 5
+60001 slice 2 5 9 -> 0 of 0 skipped 4 of 5
+";
+
+#[test]
+fn slices(rt: HostRuntime) -> Result<(), Fail> {
+    plays(&rt, rt.alloc(), SLICED)
+}

@@ -1,0 +1,64 @@
+//! The calls that `list_machine` lends to the core.
+ghost use Rattle.std.specs.Prelude.{◌≤◌, vec_len};
+
+use crate::events::{by_place, doc_id};
+use crate::fields::mapping_of_n;
+use crate::replies::page_text;
+use crate::values::braces;
+use es_types::{Items, NoMemory, Op, Row};
+use list_machine::{Answer, ContextStore, Reply, apply_ops, docs, search_context};
+use std::alloc::Global;
+use std::test::Fail;
+
+fn put_op(alloc: Global, id: &str) -> Result<Op, Fail> {
+    let id = doc_id(alloc, id)?;
+    let source = braces(alloc)?;
+    let values = Items::of(Vec::new(alloc));
+    Ok(Op::Put { id, source, values })
+}
+
+// What operations make of no rows. The first has the number 7.
+fn applied(alloc: Global, ops: Vec<Op>) -> Result<Vec<Row>, NoMemory>
+    requires { vec_len ops ≤ 4 }
+{
+    let mut rows = Vec::with_capacity(alloc, 4)?;
+    apply_ops(&mut rows, 6, ops);
+    Ok(rows)
+}
+
+// The first page of a context without shards.
+fn empty_page(alloc: Global) -> Result<Answer, Fail> {
+    let mapping = mapping_of_n(alloc)?;
+    let context = ContextStore::make(alloc, 1, docs(alloc)?, mapping, Vec::new(alloc), 0)?;
+    let request = by_place(alloc, None, None);
+    match search_context(alloc, &context, &request)? {
+        Reply::Found(answer) => Ok(answer),
+        _ => Err("a page")?,
+    }
+}
+
+#[test]
+fn operations(rt: HostRuntime) -> Result<(), Fail> {
+    let alloc = rt.alloc();
+    let first = put_op(alloc, "b")?;
+    let other = put_op(alloc, "a")?;
+    let again = put_op(alloc, "b")?;
+    let remove = Op::Remove {
+        id: doc_id(alloc, "a")?,
+    };
+    let rows = applied(alloc, vec![in alloc; first, other, again, remove]?)?;
+    for row in rows.as_slice() {
+        assert_eq!(rt; row.seq, 9);
+    }
+    assert_eq!(rt; rows.as_slice().len(), 1);
+    Ok(())
+}
+
+#[test]
+fn a_page_of_nothing(rt: HostRuntime) -> Result<(), Fail> {
+    let alloc = rt.alloc();
+    let page = empty_page(alloc)?;
+    let page = page_text(alloc, &page)?;
+    assert_eq!(rt; page.as_str(), "0 of 0");
+    Ok(())
+}
