@@ -53,6 +53,15 @@ def sorted_documents(count, pages, size):
         yield from request(b"POST /_search", b'{"pit":{"id":"UAAAAAAAAAAB"},"size":%d,"sort":["n"]%s}' % (size, after))
 
 
+def openings(documents, count):
+    """So many documents in one shard, and so many points in time of them, with no refresh between."""
+    yield from request(b"PUT /t", b'{"mappings":{"properties":{"n":{"type":"long"}}}}')
+    lines = b"".join(b'{"index":{"_id":"d%d"}}\n{"n":%d}\n' % (number, number) for number in range(documents))
+    yield from request(b"POST /t/_bulk?refresh", lines)
+    for _ in range(count):
+        yield from request(b"POST /t/_pit?keep_alive=1m")
+
+
 def small_puts(count):
     """Small documents without a refresh between them."""
     for number in range(count):
@@ -203,6 +212,10 @@ def main():
         ("20,000 documents, no page", sorted_documents(20000, 0, 1000)),
         ("20,000 documents, 20 pages of 1,000 in order", sorted_documents(20000, 20, 1000)),
         ("20,000 documents, 2 pages of 10,000 in order", sorted_documents(20000, 2, 10000)),
+        ("1,000 documents, 1 opening", openings(1000, 1)),
+        ("1,000 documents, 400 openings", openings(1000, 400)),
+        ("20,000 documents, 1 opening", openings(20000, 1)),
+        ("20,000 documents, 400 openings", openings(20000, 400)),
         ("1,000 documents", many_documents(1000)),
         ("4,000 documents", many_documents(4000)),
     ))
@@ -228,6 +241,11 @@ def main():
     for pages, size in ((20, "1,000"), (2, "10,000")):
         seconds = found["20,000 documents, %d pages of %s in order" % (pages, size)][1] - found["20,000 documents, no page"][1]
         print("a page of %s of 20,000 documents in order: %.1f ms" % (size, seconds / pages * 1000))
+    for documents in ("1,000", "20,000"):
+        one, many = found["%s documents, 1 opening" % documents], found["%s documents, 400 openings" % documents]
+        memory = many[2] - one[2]
+        print("399 further openings of %s documents: %.1f ms, %.2f MiB (at most 2)" % (documents, (many[1] - one[1]) * 1000, memory / MIB))
+        failed = failed or memory > 2 * MIB
     print("20,000 small puts: %d requests a second" % (20000 / found["20,000 small puts"][1]))
     sys.exit(failed)
 

@@ -9,7 +9,7 @@ use crate::values::text;
 use es_query::Query;
 use es_sort::Keys;
 use es_types::{DocId, IndexName, Items, KeepAlive, Moment, NoMemory, Value};
-use list_machine::{Change, Event, SearchRequest, Target};
+use list_machine::{Change, Event, SearchRequest, Target, Which};
 use slice_rule::Slice;
 use std::alloc::Global;
 use std::test::Fail;
@@ -127,6 +127,52 @@ pub(crate) fn by_place(alloc: Global, after: Option<Keys>, slice: Option<Slice>)
     }
 }
 
+fn keep(word: &str) -> Result<KeepAlive, Fail> {
+    Ok(KeepAlive::read(word.as_bytes()).ok().ok_or("a time")?)
+}
+
+// A point in time is kept for a minute, where the line says no other time.
+fn open(alloc: Global, line: &str) -> Result<Event, Fail>
+    ensures object { IfOk result PutsObject }
+    ensures bounded { IfOk result IsBounded }
+{
+    let index = index(alloc, word(line, 2))?;
+    let time = word(line, 3);
+    let keep = keep(if time.is_empty() { "1m" } else { time })?;
+    Ok(Event::OpenPit { index, keep })
+}
+
+// A search of a point in time, which is kept longer.
+fn keep_longer(alloc: Global, line: &str) -> Result<Event, Fail>
+    ensures object { IfOk result PutsObject }
+    ensures bounded { IfOk result IsBounded }
+{
+    let number = number(line, 2)?;
+    let keep = keep(word(line, 3))?;
+    let after = after(alloc, word(line, 4))?;
+    let target = Target::Pit {
+        number,
+        keep: Some(keep),
+    };
+    Ok(Event::Search {
+        target,
+        request: by_place(alloc, after, None),
+    })
+}
+
+// The numbers stand from the third word on.
+fn close(alloc: Global, line: &str) -> Result<Event, Fail>
+    ensures object { IfOk result PutsObject }
+    ensures bounded { IfOk result IsBounded }
+{
+    let mut numbers = Vec::new(alloc);
+    for word in line.split(' ').skip(2) {
+        numbers.push(word.parse::<u64>().ok().ok_or("a number")?)?;
+    }
+    let which = Which::Pits(Items::of(numbers));
+    Ok(Event::Close { which })
+}
+
 fn search(alloc: Global, line: &str) -> Result<Event, Fail>
     ensures object { IfOk result PutsObject }
     ensures bounded { IfOk result IsBounded }
@@ -134,7 +180,7 @@ fn search(alloc: Global, line: &str) -> Result<Event, Fail>
     let number = number(line, 2)?;
     let after = after(alloc, word(line, 3))?;
     Ok(Event::Search {
-        target: Target::Pit { number },
+        target: Target::Pit { number, keep: None },
         request: by_place(alloc, after, None),
     })
 }
@@ -149,7 +195,7 @@ fn slice(alloc: Global, line: &str) -> Result<Event, Fail>
     let max = word(line, 4).parse::<u32>().ok().ok_or("a number")?;
     let slice = Slice::make(id, max).ok().ok_or("a slice")?;
     Ok(Event::Search {
-        target: Target::Pit { number },
+        target: Target::Pit { number, keep: None },
         request: by_place(alloc, None, Some(slice)),
     })
 }
@@ -201,8 +247,8 @@ fn find(alloc: Global, line: &str) -> Result<Event, Fail>
 
 // What a line asks for, behind its milliseconds. An index is made with five shards and the whole number `n`, and a
 // search is for two documents, behind a place where it has one:
-// create INDEX, put INDEX ID [n=N], remove INDEX ID, publish INDEX SHARD UPTO, open INDEX, search PIT [PLACE],
-// slice PIT ID MAX, find INDEX FIELD VALUE, order INDEX FIELD asc|desc [VALUE], seal INDEX, quiet
+// create INDEX, put INDEX ID [n=N], remove INDEX ID, publish INDEX SHARD UPTO, open INDEX [TIME], search PIT [PLACE],
+// keep PIT TIME [PLACE], close PIT.., slice PIT ID MAX, find INDEX FIELD VALUE, order INDEX FIELD asc|desc [VALUE], seal INDEX, quiet
 pub(crate) fn event(alloc: Global, line: &str) -> Result<Event, Fail>
     ensures object { IfOk result PutsObject }
     ensures bounded { IfOk result IsBounded }
@@ -212,10 +258,9 @@ pub(crate) fn event(alloc: Global, line: &str) -> Result<Event, Fail>
         "put" => put(alloc, line),
         "remove" => remove(alloc, line),
         "publish" => publish(alloc, line),
-        "open" => Ok(Event::OpenPit {
-            index: index(alloc, word(line, 2))?,
-            keep: KeepAlive::minute(),
-        }),
+        "open" => open(alloc, line),
+        "keep" => keep_longer(alloc, line),
+        "close" => close(alloc, line),
         "search" => search(alloc, line),
         "slice" => slice(alloc, line),
         "find" => find(alloc, line),

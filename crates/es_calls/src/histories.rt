@@ -4,7 +4,7 @@ ghost use Rattle.list_machine.specs.Run.{IsBounded, PutsObject};
 
 use crate::events::{event, moment};
 use crate::replies::said;
-use es_core::{Brought, Core, Turned};
+use es_core::{Brought, Chore, Core, Turned};
 use es_types::{Moment, NoMemory};
 use list_machine::{
     Entry, Event, Limits, Machine, Reply, one_enumeration, pages_in_turn, slices_share_out,
@@ -22,6 +22,12 @@ fn take_step(machine: &mut Machine, entry: Entry) -> Result<Reply, NoMemory>
     ensures { OnOk result (machine.new.entries ≡ machine.old.entries + 1) }
 {
     machine.step(&entry)
+}
+
+// A quiet lets go what is live no more, which no reply shows.
+fn take_quiet(core: &mut Core, moment: Moment) -> Result<Reply, NoMemory> {
+    let _ = core.quiet(Chore::Reap, moment)?;
+    Ok(Reply::Done)
 }
 
 fn take_turn(core: &mut Core, event: Event, moment: Moment) -> Result<Turned, NoMemory>
@@ -43,6 +49,9 @@ fn ask_machine(alloc: Global, machine: &mut Machine, asked: &str) -> Result<Repl
 
 fn ask_core(alloc: Global, core: &mut Core, asked: &str) -> Result<Reply, Fail> {
     let moment = moment(asked)?;
+    if asked.ends_with(" quiet") {
+        return Ok(take_quiet(core, moment)?);
+    }
     let event = event(alloc, asked)?;
     let Turned::Now(reply) = take_turn(core, event, moment)?;
     Ok(reply)
@@ -116,6 +125,50 @@ const VIEWS: &str = "
 5 open docs -> opened 2
 5 search 2 -> 2 of 2 docs b 0 docs c 1
 ";
+
+// A point in time is kept longer and never shorter, ends behind its last moment, and is closed once.
+const KEPT: &str = "
+0 put docs a -> created 1
+0 publish docs 0 1 -> done
+0 open docs -> opened 1
+0 keep 1 5m -> 1 of 1 docs a 0
+10 keep 1 1s -> 1 of 1 docs a 0
+10 put docs b -> created 2
+10 publish docs 0 2 -> done
+300000 search 1 -> 1 of 1 docs a 0
+300000 keep 1 1h x -> bad after
+300000 quiet -> done
+300000 open docs -> too many 1
+300001 quiet -> done
+300001 search 1 -> missing
+300001 keep 1 1h -> missing
+300001 close 1 -> closed 0
+0 open docs 0 -> opened 2
+300001 search 2 -> 2 of 2 docs a 0 docs b 1
+300001 close 9 1 -> closed 0
+300001 close 2 9 2 -> closed 1
+300001 close 2 -> closed 0
+300001 search 2 -> missing
+# Two are opened of one view; what is published behind shows in the third.
+300001 open docs 1s -> opened 3
+301002 open docs 1s -> opened 4
+301002 search 3 -> missing
+301002 search 4 -> 2 of 2 docs a 0 docs b 1
+301002 remove docs a -> deleted 3
+301002 publish docs 0 3 -> done
+302003 open docs 24h -> opened 5
+302003 search 5 -> 1 of 1 docs b 0
+302003 close 3 4 5 -> closed 1
+302003 quiet -> done
+302003 create logs -> done
+302003 open logs -> opened 6
+302003 close 6 -> closed 5
+";
+
+#[test]
+fn contexts_kept_and_closed(rt: HostRuntime) -> Result<(), Fail> {
+    plays(&rt, rt.alloc(), KEPT)
+}
 
 #[test]
 fn histories(rt: HostRuntime) -> Result<(), Fail> {

@@ -6,7 +6,7 @@ use crate::fields::mapping_of_n;
 use crate::replies::page_text;
 use crate::values::braces;
 use es_types::{Items, NoMemory, Op, Row};
-use list_machine::{Answer, ContextStore, Reply, apply_ops, docs, search_context};
+use list_machine::{Answer, Reply, ViewRef, apply_ops, docs, search_view};
 use std::alloc::Global;
 use std::test::Fail;
 
@@ -26,12 +26,15 @@ fn applied(alloc: Global, ops: Vec<Op>) -> Result<Vec<Row>, NoMemory>
     Ok(rows)
 }
 
-// The first page of a context without shards.
+// The first page of a view without shards.
 fn empty_page(alloc: Global) -> Result<Answer, Fail> {
-    let mapping = mapping_of_n(alloc)?;
-    let context = ContextStore::make(alloc, 1, docs(alloc)?, mapping, Vec::new(alloc), 0)?;
+    let view = ViewRef {
+        index: &docs(alloc)?,
+        mapping: &mapping_of_n(alloc)?,
+        shards: &[],
+    };
     let request = by_place(alloc, None, None);
-    match search_context(alloc, &context, &request)? {
+    match search_view(alloc, &view, &request)? {
         Reply::Found(answer) => Ok(answer),
         _ => Err("a page")?,
     }

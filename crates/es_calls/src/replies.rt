@@ -43,6 +43,7 @@ fn reply_text(alloc: Global, reply: &Reply) -> Result<String, Fail> {
         Reply::Sealed(numbers) => format!(in alloc; "sealed {:?}", numbers.as_slice())?,
         Reply::Opened { number } => format!(in alloc; "opened {number}")?,
         Reply::Found(answer) => page_text(alloc, answer)?,
+        Reply::Closed { freed } => format!(in alloc; "closed {freed}")?,
         Reply::Spent => String::from_str(alloc, "spent")?,
         Reply::NoIndex => String::from_str(alloc, "no index")?,
         Reply::Exists => String::from_str(alloc, "exists")?,

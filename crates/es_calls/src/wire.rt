@@ -81,6 +81,10 @@ const HEADS: &str = "\
 0 GET / HTTP/1.1|content-length: 104857600 -> 0 truncated
 0 GET / HTTP/1.1|content-length: 104857601 -> 0 not built
 0 GET / HTTP/1.1|content-length: 1|content-length: 1 -> 0 not built
+0 GET / HTTP/1.1|X-Moment: 5|host: h -> 1
+0 GET / HTTP/1.1|x-moment: what is no moment -> 1
+0 GET / HTTP/1.1|x-moment: 5|X-MOMENT: 5 -> 0 not built
+0 GET / HTTP/1.1|x-moments: 5 -> 0 not built
 0 GET / HTTP/1.1|te: x -> 0 not built
 0 GET / HTTP/1.0|host: h -> 0 not built
 0 OPTIONS * HTTP/1.1|host: h -> 0 not built
@@ -105,11 +109,15 @@ fn heads(rt: HostRuntime) -> Result<(), Fail> {
     Ok(())
 }
 
-// The last of these requests, which has no moment and closes nothing.
+// The last of these requests, which closes nothing, and the moment that it hands in, in angle brackets.
 fn last_text(alloc: Global, stream: &str) -> Result<String, Fail> {
     let last = came(alloc, stream.as_bytes(), 5, 0)?.2.ok_or("a request")?;
-    if last.moment.is_some() || last.last {
-        return Ok(String::from_str(alloc, "told")?);
+    if last.last {
+        return Ok(String::from_str(alloc, "the last one")?);
+    }
+    if let Some(moment) = &last.moment {
+        let moment = str::from_utf8(moment.as_slice()).ok().ok_or("text")?;
+        return Ok(format!(in alloc; "<{moment}>")?);
     }
     let method = last.method.as_str();
     let path = last.path.as_str();
@@ -139,6 +147,11 @@ fn cuts(rt: HostRuntime) -> Result<(), Fail> {
         (two, "PUT /b [c?d] [abc]"),
         ("PUT /a? HTTP/1.1\r\n\r\n", "PUT /a [] []"),
         ("PUT /a HTTP/1.1\r\n\r\n", "PUT /a [] []"),
+        (
+            "GET /a HTTP/1.1\r\nx-moment: \t 60 000 \t\r\nhost: 5\r\n\r\n",
+            "<60 000>",
+        ),
+        ("GET /a HTTP/1.1\r\nhost: 5\r\nX-Moment:\r\n\r\n", "<>"),
     ] {
         let found = last_text(alloc, text)?;
         assert_eq!(rt; found.as_str(), want);

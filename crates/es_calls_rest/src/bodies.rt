@@ -8,7 +8,7 @@ use std::test::Fail;
 
 fn word_of(fault: &Failure<BodyFault>) -> &'static str {
     match fault {
-        Failure::Is(BodyFault::NotBuilt) => "not built",
+        Failure::Is(BodyFault::BadId) => "bad id",
         Failure::Is(BodyFault::NotJson) => "no json",
         Failure::Is(BodyFault::Shape) => "shape",
         Failure::Is(BodyFault::Limit(LimitName::Shards)) => "shards",

@@ -68,7 +68,7 @@ fn rows(alloc: Global, mapping: &Mapping) -> Result<Vec<Row>, Fail> {
 
 fn query(alloc: Global, query: &str) -> Result<Query, Fail> {
     let body = format!(in alloc; "{{\"query\":{query}}}")?;
-    let body = read_search(alloc, body.as_bytes(), true, 0, 512)
+    let body = read_search(alloc, body.as_bytes(), true, 512)
         .ok()
         .ok_or("a query")?;
     Ok(body.request.query)
@@ -202,7 +202,7 @@ fn nested(alloc: Global, count: usize, inner: &str) -> Result<String, Fail> {
 fn levels(rt: HostRuntime) -> Result<(), Fail> {
     let alloc = rt.alloc();
     let body = nested(alloc, 62, r#"{"match_all":{}}"#)?;
-    let body = read_search(alloc, body.as_bytes(), true, 0, 512)
+    let body = read_search(alloc, body.as_bytes(), true, 512)
         .ok()
         .ok_or("127 levels")?;
     let mapping = mapping(alloc)?;
@@ -210,7 +210,7 @@ fn levels(rt: HostRuntime) -> Result<(), Fail> {
     let found = found(alloc, &mapping, &rows, &body.request.query)?;
     assert_eq!(rt; found.as_str(), "abcdefghijlm");
     let body = nested(alloc, 62, r#"[{"match_all":{}}]"#)?;
-    let read = read_search(alloc, body.as_bytes(), true, 0, 512);
+    let read = read_search(alloc, body.as_bytes(), true, 512);
     assert!(rt; matches!(read, Err(Failure::Is(BodyFault::NotJson))));
     Ok(())
 }

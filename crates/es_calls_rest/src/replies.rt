@@ -3,7 +3,7 @@ use crate::given::{bytes, doc_id, index, text};
 use es_types::{Bytes, DocCause, DocFault, Items, LimitName, NoMemory, Value};
 use list_machine::{Answer, Counts, Hit, Reply, Wrote};
 use reply_json::{
-    BulkLine, BulkOutcome, Response, RestFault, RouteName, id_text, no_memory_text, print,
+    BulkLine, BulkOutcome, Response, RestFault, RouteName, closed_status, no_memory_text, print,
     wrote_status,
 };
 use std::alloc::Global;
@@ -75,15 +75,23 @@ fn an_opening(rt: HostRuntime) -> Result<(), Fail> {
 }
 
 #[test]
-fn ids(rt: HostRuntime) -> Result<(), Fail> {
+fn closings(rt: HostRuntime) -> Result<(), Fail> {
     let alloc = rt.alloc();
-    for (number, want) in [
-        (1, "UAAAAAAAAAAB"),
-        (3, "UAAAAAAAAAAD"),
-        (9, "UAAAAAAAAAAJ"),
+    for (freed, want) in [
+        (0, "{\"succeeded\":true,\"num_freed\":0}"),
+        (2, "{\"succeeded\":true,\"num_freed\":2}"),
+        (
+            18446744073709551615,
+            "{\"succeeded\":true,\"num_freed\":18446744073709551615}",
+        ),
     ] {
-        let id = id_text(alloc, number)?;
-        assert_eq!(rt; id.as_str(), want);
+        let response = reply(
+            RouteName::ClosePit,
+            Reply::Closed { freed },
+            closed_status(freed),
+        );
+        let status = if freed == 0 { 404 } else { 200 };
+        prints(&rt, alloc, response, status, want)?;
     }
     Ok(())
 }
@@ -283,6 +291,7 @@ fn plain(name: &str) -> Result<RestFault, Fail> {
         "full" => RestFault::ShardFull,
         "memory" => RestFault::NoMemory,
         "not-built" => RestFault::NotBuilt,
+        "id" => RestFault::BadId,
         _ => Err("a fault")?,
     })
 }
@@ -293,10 +302,12 @@ fn bad_doc(field: u32, cause: DocCause) -> RestFault {
 
 fn limit(name: &str) -> Result<LimitName, Fail> {
     Ok(match name {
+        "moment" => LimitName::Moment,
         "index" => LimitName::Index,
         "id" => LimitName::Id,
         "shards" => LimitName::Shards,
         "fields" => LimitName::Fields,
+        "keep_alive" => LimitName::KeepAlive,
         "batch" => LimitName::Batch,
         "pit" => LimitName::Pit,
         "from" => LimitName::From,
@@ -310,10 +321,12 @@ fn limit(name: &str) -> Result<LimitName, Fail> {
 // Each line has a fault and what it is about, and the status, type and reason of its response as JSON writes them.
 const FAULTS: &str = r#"
 parameter "q -> 400 illegal_argument_exception: bad parameter [\"q]
+limit moment -> 400 illegal_argument_exception: limit [moment]
 limit index -> 400 illegal_argument_exception: limit [index]
 limit id -> 400 illegal_argument_exception: limit [id]
 limit shards -> 400 illegal_argument_exception: limit [shards]
 limit fields -> 400 illegal_argument_exception: limit [fields]
+limit keep_alive -> 400 illegal_argument_exception: limit [keep_alive]
 limit batch -> 400 illegal_argument_exception: limit [batch]
 limit pit -> 400 illegal_argument_exception: limit [pit]
 limit from -> 400 illegal_argument_exception: limit [from]
@@ -323,6 +336,7 @@ limit sort -> 400 illegal_argument_exception: limit [sort]
 query  -> 400 query_shard_exception: a query value of another kind
 sort  -> 400 query_shard_exception: no mapping for a sort field
 after  -> 400 illegal_argument_exception: search_after does not fit the sort
+id  -> 400 illegal_argument_exception: bad id
 body  -> 400 parsing_exception: bad body
 kind  -> 400 document_parsing_exception: field [12] has a value of another kind
 long  -> 400 document_parsing_exception: field [0] has a value that is too long

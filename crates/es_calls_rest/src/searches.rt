@@ -3,7 +3,7 @@ use doc_json::BodyFault;
 use es_query::{Bool, Edge, Need, Query, Side};
 use es_sort::{Keys, SortBy, SortKey};
 use es_types::{Fail as Failure, LimitName, NoMemory, Value};
-use search_json::{SearchBody, pit_number, read_search};
+use search_json::{SearchBody, context_keep, read_pit_close, read_search};
 use std::alloc::Global;
 use std::process::Abort;
 use std::test::Fail;
@@ -75,7 +75,8 @@ fn queries_text(alloc: Global, sign: &str, queries: &[Query]) -> Result<String, 
 
 fn word_of(fault: &Failure<BodyFault>) -> &'static str {
     match fault {
-        Failure::Is(BodyFault::NotBuilt) => "not built",
+        Failure::Is(BodyFault::BadId) => "bad id",
+        Failure::Is(BodyFault::Limit(LimitName::KeepAlive)) => "keep_alive",
         Failure::Is(BodyFault::NotJson) => "no json",
         Failure::Is(BodyFault::Shape) => "shape",
         Failure::Is(BodyFault::Limit(LimitName::Pit)) => "pit",
@@ -127,8 +128,12 @@ fn body_text(alloc: Global, body: &SearchBody) -> Result<String, NoMemory> {
     if let Some(slice) = &request.slice {
         found.push_str(&format!(in alloc; " slice {} of {}", slice.id, slice.max)?)?;
     }
-    if let Some(pit) = body.pit {
-        found.push_str(&format!(in alloc; " in {pit}")?)?;
+    if let Some(pit) = &body.pit {
+        let id = pit.id.to_text(alloc)?;
+        found.push_str(&format!(in alloc; " in {}", id.as_str())?)?;
+        if let Some(keep) = pit.keep {
+            found.push_str(&format!(in alloc; " for {}", keep.millis())?)?;
+        }
     }
     if request.sort.show_place {
         found.push_str(" placed")?;
@@ -139,9 +144,9 @@ fn body_text(alloc: Global, body: &SearchBody) -> Result<String, NoMemory> {
     Ok(found)
 }
 
-// What a body asks for, where three points in time were opened, and seven shards are brought together at a time.
+// What a body asks for, where seven shards are brought together at a time.
 fn search_text(alloc: Global, has_index: bool, body: &str) -> Result<String, NoMemory> {
-    match read_search(alloc, body.as_bytes(), has_index, 3, 7) {
+    match read_search(alloc, body.as_bytes(), has_index, 7) {
         Ok(body) => body_text(alloc, &body),
         Err(fault) => String::from_str(alloc, word_of(&fault)),
     }
@@ -196,29 +201,30 @@ const OF_AN_INDEX: &str = r#"
 {"pit":{"id":"UAAAAAAAAAAB"}} -> pit
 {"pit":{"id":"UAAAAAAAAAAB"},"size":10001} -> pit
 {"pit":{"id":"UAAAAAAAAAAB"},"x":1} -> shape
-{"pit":{"id":"UAAAAAAAAAAE"},"x":1} -> not built
+{"pit":{"id":"x"},"x":1} -> shape
+{"pit":{"id":"x"}} -> pit
 {"pit":{"id":7}} -> shape
 {"pit":{}} -> shape
 "#;
 
 const OF_A_POINT_IN_TIME: &str = r#"
-{"pit":{"id":"UAAAAAAAAAAB"}} -> 10 all in 1 placed
-{"pit":{"id":"UAAAAAAAAAAB"},"size":2,"search_after":[-7]} -> 2 all after -7 in 1 placed
-{"pit":{"id":"UAAAAAAAAAAB"},"search_after":[9223372036854775807]} -> 10 all after 9223372036854775807 in 1 placed
-{"pit":{"id":"UAAAAAAAAAAB"},"search_after":[]} -> 10 all after in 1 placed
-{"pit":{"id":"UAAAAAAAAAAB"},"search_after":[1,null,"x",""]} -> 10 all after 1 missing 'x' '' in 1 placed
+{"pit":{"id":"UAAAAAAAAAAB"}} -> 10 all in UAAAAAAAAAAB placed
+{"pit":{"id":"UAAAAAAAAAAB"},"size":2,"search_after":[-7]} -> 2 all after -7 in UAAAAAAAAAAB placed
+{"pit":{"id":"UAAAAAAAAAAB"},"search_after":[9223372036854775807]} -> 10 all after 9223372036854775807 in UAAAAAAAAAAB placed
+{"pit":{"id":"UAAAAAAAAAAB"},"search_after":[]} -> 10 all after in UAAAAAAAAAAB placed
+{"pit":{"id":"UAAAAAAAAAAB"},"search_after":[1,null,"x",""]} -> 10 all after 1 missing 'x' '' in UAAAAAAAAAAB placed
 {"pit":{"id":"UAAAAAAAAAAB"},"search_after":[1.5]} -> shape
 {"pit":{"id":"UAAAAAAAAAAB"},"search_after":[true]} -> shape
 {"pit":{"id":"UAAAAAAAAAAB"},"search_after":[[1]]} -> shape
 {"pit":{"id":"UAAAAAAAAAAB"},"search_after":[9223372036854775808]} -> shape
 {"pit":{"id":"UAAAAAAAAAAB"},"search_after":1} -> shape
 {"pit":{"id":"UAAAAAAAAAAB"},"search_after":null} -> shape
-{"pit":{"id":"UAAAAAAAAAAB"},"sort":"_shard_doc"} -> 10 all by place in 1 placed
-{"pit":{"id":"UAAAAAAAAAAB"},"sort":{"_doc":"desc"},"from":7} -> 10 all from 7 by place down in 1 placed
+{"pit":{"id":"UAAAAAAAAAAB"},"sort":"_shard_doc"} -> 10 all by place in UAAAAAAAAAAB placed
+{"pit":{"id":"UAAAAAAAAAAB"},"sort":{"_doc":"desc"},"from":7} -> 10 all from 7 by place down in UAAAAAAAAAAB placed
 {"pit":{"id":"UAAAAAAAAAAB"},"sort":["_score"]} -> sort
 {"pit":{"id":"UAAAAAAAAAAB"},"size":10001} -> window
-{"pit":{"id":"UAAAAAAAAAAB"},"slice":{"id":1,"max":3}} -> 10 all slice 1 of 3 in 1 placed
-{"pit":{"id":"UAAAAAAAAAAB"},"slice":{"max":1024,"id":1023},"from":3} -> 10 all from 3 slice 1023 of 1024 in 1 placed
+{"pit":{"id":"UAAAAAAAAAAB"},"slice":{"id":1,"max":3}} -> 10 all slice 1 of 3 in UAAAAAAAAAAB placed
+{"pit":{"id":"UAAAAAAAAAAB"},"slice":{"max":1024,"id":1023},"from":3} -> 10 all from 3 slice 1023 of 1024 in UAAAAAAAAAAB placed
 {"pit":{"id":"UAAAAAAAAAAB"},"slice":{"id":3,"max":3}} -> slice
 {"pit":{"id":"UAAAAAAAAAAB"},"slice":{"id":0,"max":1}} -> slice
 {"pit":{"id":"UAAAAAAAAAAB"},"slice":{"id":0,"max":0}} -> slice
@@ -238,10 +244,21 @@ const OF_A_POINT_IN_TIME: &str = r#"
 {"slice":{"id":0,"max":2}} -> pit
 {"size":10001} -> pit
 {"search_after":[1]} -> pit
-{"pit":{"id":"UAAAAAAAAAAD"}} -> 10 all in 3 placed
-{"pit":{"id":"UAAAAAAAAAAE"}} -> not built
-{"pit":{"id":"x"}} -> not built
-{"pit":{"id":"UAAAAAAAAAAB","keep_alive":"1m"}} -> not built
+{"pit":{"id":"UAAAAAAAAAAD"}} -> 10 all in UAAAAAAAAAAD placed
+{"pit":{"id":"UwAAAAAAAAAB"}} -> 10 all in UwAAAAAAAAAB placed
+{"pit":{"id":"x"}} -> bad id
+{"pit":{"id":"UAAAAAAAAAAA"}} -> bad id
+{"pit":{"id":"UAAAAAAAAAAB="}} -> bad id
+{"pit":{"id":""},"sort":"_score"} -> sort
+{"pit":{"id":"x","keep_alive":"1x"}} -> keep_alive
+{"pit":{"id":"UAAAAAAAAAAB","keep_alive":"1m"}} -> 10 all in UAAAAAAAAAAB for 60000 placed
+{"pit":{"keep_alive":"0","id":"UAAAAAAAAAAB"}} -> 10 all in UAAAAAAAAAAB for 0 placed
+{"pit":{"id":"UAAAAAAAAAAB","keep_alive":"24h"}} -> 10 all in UAAAAAAAAAAB for 86400000 placed
+{"pit":{"id":"UAAAAAAAAAAB","keep_alive":"86400001ms"},"size":10001} -> keep_alive
+{"pit":{"id":"UAAAAAAAAAAB","keep_alive":""}} -> keep_alive
+{"pit":{"id":"UAAAAAAAAAAB","keep_alive":60000}} -> shape
+{"pit":{"id":"UAAAAAAAAAAB","keep_alive":null}} -> shape
+{"pit":{"keep_alive":"1m"}} -> shape
 {"pit":{"id":"UAAAAAAAAAAB","x":1}} -> shape
 {"pit":"UAAAAAAAAAAB"} -> shape
 "#;
@@ -339,19 +356,41 @@ fn keys_at_the_limit(rt: HostRuntime) -> Result<(), Fail> {
 }
 
 #[test]
-fn numbers_of_ids(rt: HostRuntime) -> Result<(), Fail> {
+fn closings(rt: HostRuntime) -> Result<(), Fail> {
     let alloc = rt.alloc();
-    for (text, want) in [
-        ("UAAAAAAAAAAB", Some(1)),
-        ("UAAAAAAAAAAD", Some(3)),
-        ("UAAAAAAAAAAE", None),
-        ("UAAAAAAAAAAA", None),
-        ("UAAAAAAAAAAB=", None),
-        ("VAAAAAAAAAAB", None),
-        ("UAAAAAAAAAA", None),
-        ("", None),
+    for (body, want) in [
+        ("{\"id\":\"UAAAAAAAAAAB\"}", "UAAAAAAAAAAB"),
+        (" {\"id\":\"QQAAAAAAAAAB\"} ", "QQAAAAAAAAAB"),
+        ("{\"id\":\"%%\"}", "bad id"),
+        ("{\"id\":\"\"}", "bad id"),
+        ("{\"id\":1}", "shape"),
+        ("{}", "shape"),
+        ("[]", "shape"),
+        ("{\"id\":\"UAAAAAAAAAAB\",\"x\":1}", "shape"),
+        ("", "no json"),
+        ("{", "no json"),
     ] {
-        assert_eq!(rt; pit_number(alloc, 3, text)?, want, "{text}");
+        let found = match read_pit_close(alloc, body.as_bytes()) {
+            Ok(id) => String::from_str(alloc, id.to_text(alloc)?.as_str())?,
+            Err(fault) => String::from_str(alloc, word_of(&fault))?,
+        };
+        assert_eq!(rt; found.as_str(), want, "{body}");
+    }
+    Ok(())
+}
+
+#[test]
+fn times_of_contexts(rt: HostRuntime) -> Result<(), Fail> {
+    for (text, want) in [
+        ("1m", Some(60_000)),
+        ("1d", Some(86_400_000)),
+        ("24h", Some(86_400_000)),
+        ("86400001ms", None),
+        ("2d", None),
+        ("x", None),
+    ] {
+        let found = context_keep(text).map(|keep| keep.millis());
+        assert!(rt; found == want, "{text}");
     }
     Ok(())
 }

@@ -1,16 +1,17 @@
 -- The index of a name in the list of indexes, and what becomes of it.
-use Rattle.std.proofs.Common.{◌≡◌, ℕ, ◌+◌, ◌<◌, ◌≤◌, Bool, true, false, not, cond, ltb, eqb, List, [], ◌∷◌, ◌++◌, zero, suc, length, map, set, get_or, slice_get, Option, Some, None, Result, Ok, Err, IfOk, Bor, Vec, Global, replicate, sym, refl, ap, ap₂, subst, ◌∙◌, ⊎_elim, arith, length-append, length-set}
+use Rattle.std.proofs.Common.{◌≡◌, ℕ, ◌+◌, ◌<◌, ◌≤◌, Bool, true, false, not, cond, ltb, eqb, List, [], ◌∷◌, ◌++◌, zero, suc, length, map, set, get_or, slice_get, Option, Some, None, Result, Ok, Err, IfOk, replicate, sym, refl, ap, ap₂, subst, ◌∙◌, ⊎_elim, arith, length-append, length-set}
 use Rattle.std.specs.BTreeMap.{BTreeMap, get_by_text}
-use Rattle.std.specs.List.{All, position, position_or_len}
+use Rattle.std.specs.Option.{option_map}
+use Rattle.std.specs.List.{position, position_or_len}
 use Rattle.std.specs.Prelude.{String}
 use Rattle.std.specs.Str.{bytes_eq}
 use Rattle.std.proofs.lemmas.Bool.{cases_Bool, cases_lt}
 use Rattle.std.proofs.lemmas.Slice.Eq.{bytes_eq-Decides}
 use Rattle.std.proofs.lemmas.List.Quantifiers.{position-Some}
 use Rattle.std.proofs.lemmas.List.{get_or_default, get_or-map, length-map, set-get_or}
-use Rattle.std.proofs.lemmas.List.Elements.{All-head, All-map, All-tail}
+use Rattle.std.proofs.lemmas.List.Elements.{All-head, All-tail}
 use Rattle.std.proofs.lemmas.List.Folds.{position_or_len-set, position_or_len_push}
-use Rattle.std.proofs.lemmas.Option.{get_or_from_slice_get, none-some}
+use Rattle.std.proofs.lemmas.Option.{get_or_from_slice_get, none-some, same_Some}
 use Rattle.std.proofs.Math.Seq.{map-set_same}
 use Rattle.es_types.specs.declared.fit.DocFault.{DocFault}
 use Rattle.es_types.specs.declared.mapping.Field.{Field}
@@ -31,7 +32,8 @@ use Rattle.list_machine.specs.declared.event.Wrote.{Wrote}
 use Rattle.list_machine.specs.Rows.{Shard, has_id, last_number, publish, rows_to_come}
 use Rattle.list_machine.specs.State.{Index, State, empty_shard, id_of, index_of, put_index, view_of}
 use Rattle.list_machine.specs.Step.{append_op, create, happen, is_full, op_of, put_op, publish_index, publish_shard, put_shard, seal, search_index, search_reply, write, write_op, write_shard, wrote}
-use Rattle.list_machine.specs.Stores.{IsSmall, view_over}
+use Rattle.list_machine.specs.Stores.{view_over}
+use Rattle.list_machine.specs.Views.{View}
 use Rattle.es_core.specs.declared.index.Index.{Index as Store}
 use Rattle.es_core.specs.Indexes.{AllNumbered, AreNumbered, IsLike, Moves, Placed, publish_at, publish_in, sealed, write_at, write_by, write_in}
 use Rattle.es_core.specs.Seen.{index_seen, indexes_seen}
@@ -271,25 +273,42 @@ indexes_seen-same {name} {stores} {at} {store} found new like same =
     map-set_same index_seen stores at new store
     (ap₂ (λ named mapped. index named mapped new.shards.items) like.name like.mapping ∙ ap (index store.name store.mapping) same ∙ ap index_seen found.is)
 
--- a search of the found index, of which nothing seen changes
-search_turns : {name : List ℕ} {stores : List Store} {at : ℕ} {store : Store} → IsFound name stores at store
-    → (request : SearchRequest) (new : Store) → IsLike store new → new.shards.items ≡ store.shards.items → (reply : Reply) → reply ≡ search_reply (view_of (index_seen store)) request
-    → Moves (λ state. happen state (Search (Named name) request)) stores (set stores at new) reply
-search_turns {name} {stores} {at} {store} found request new like same reply is state =
-    let seen : State = record state { indexes = indexes_seen stores } in
+-- the index whose view was found
+pub view_found : (o : Option Index) (view : View) → Some view ≡ option_map view_of o → (index : Index) × (o ≡ Some index) × (view ≡ view_of index)
+view_found None view is = absurd (none-some view (sym is))
+view_found (Some index) view is = (index, refl, same_Some view (view_of index) is)
+
+pub view_none : (o : Option Index) → None ≡ option_map view_of o → o ≡ None
+view_none None is = refl
+view_none (Some index) is = absurd (none-some (view_of index) is)
+
+-- a search of an index whose view was found, where nothing seen changes
+search_turns : (name : List ℕ) (request : SearchRequest) (old new : List Store) (view : View) (reply : Reply) → Some view ≡ option_map view_of (index_of name (indexes_seen old))
+    → indexes_seen new ≡ indexes_seen old → reply ≡ search_reply view request
+    → Moves (λ state. happen state (Search (Named name) request)) old new reply
+search_turns name request old new view reply finds same is state =
+    let found = view_found (index_of name (indexes_seen old)) view finds in
+    let seen : State = record state { indexes = indexes_seen old } in
     let replied : Reply → State × Reply = λ it. (seen, it) in
     let with_indexes : List Index → State × Reply = λ them. (record state { indexes = them }, reply) in
-    ap (λ it. search_index seen request it) (index_of-first name stores at store found.first found.is)
-    ∙ ap replied (sym is)
-    ∙ ap with_indexes (sym (indexes_seen-same found new like same))
+    ap (λ it. search_index seen request it) found.1
+    ∙ ap replied (sym (is ∙ ap (λ (it : View). search_reply it request) found.2))
+    ∙ ap with_indexes (sym same)
 
 -- the same of what a call gave
-pub search_done : {name : List ℕ} {stores : List Store} {at : ℕ} {store : Store} → IsFound name stores at store
-    → (request : SearchRequest) (new : Store) → IsLike store new → new.shards.items ≡ store.shards.items → {E : Type 0} (r : Result Reply E)
-    → IfOk r (λ reply. reply ≡ search_reply (view_of (index_seen store)) request)
-    → IfOk r (Moves (λ state. happen state (Search (Named name) request)) stores (set stores at new))
-search_done found request new like same (Ok reply) is = search_turns found request new like same reply is
-search_done found request new like same (Err e) is = tt
+pub search_done : (name : List ℕ) (request : SearchRequest) (old new : List Store) (view : View) → Some view ≡ option_map view_of (index_of name (indexes_seen old))
+    → indexes_seen new ≡ indexes_seen old → {E : Type 0} (r : Result Reply E) → IfOk r (λ reply. reply ≡ search_reply view request)
+    → IfOk r (Moves (λ state. happen state (Search (Named name) request)) old new)
+search_done name request old new view finds same (Ok reply) is = search_turns name request old new view reply finds same is
+search_done name request old new view finds same (Err e) is = tt
+
+-- a search of an index that isn't there
+pub search_none : (name : List ℕ) (request : SearchRequest) (old new : List Store) → None ≡ option_map view_of (index_of name (indexes_seen old))
+    → indexes_seen new ≡ indexes_seen old → Moves (λ state. happen state (Search (Named name) request)) old new NoIndex
+search_none name request old new none same state =
+    let seen : State = record state { indexes = indexes_seen old } in
+    let with_indexes : List Index → State × Reply = λ them. (record state { indexes = them }, NoIndex) in
+    ap (λ it. search_index seen request it) (view_none (index_of name (indexes_seen old)) none) ∙ ap with_indexes (sym same)
 
 -- found by a look-up in a slice
 pub found_at : (name : List ℕ) (stores slice : List Store) (at : ℕ) (store : Store) (place : Option ℕ) → slice ≡ stores
@@ -432,20 +451,8 @@ create_done name old new shards mapping none (Err e) moves = tt
 pub index_of_found : {name : List ℕ} {stores : List Store} {at : ℕ} {store : Store} → IsFound name stores at store → index_of name (indexes_seen stores) ≡ Some (index_seen store)
 index_of_found {name} {stores} {at} {store} found = index_of-first name stores at store found.first found.is
 
--- a copy of what searches see of an index is small
-pub copy_small : (store : Store) (name : List ℕ) (mapping : List Field) (copies : List (Vec Row Global)) → map (λ (rows : Vec Row Global). rows.items) copies ≡ map (λ (shard : Shard). shard.rows) store.shards.items
-    → All (λ (rows : Vec Row Global). length rows.items ≤ 2147483647) copies → IsSmall (record { index = name; mapping = mapping; shards = map (λ (rows : Vec Row Global). rows.items) copies })
-copy_small store name mapping copies is few = record {
-  few = omega (arith, store.few, ap length is, length-map store.shards.items (λ (shard : Shard). shard.rows));
-  rows = All-map (λ (rows : List Row). length rows ≤ 2147483647) (λ (rows : Vec Row Global). rows.items) copies few;
-}
-
--- what searches see of an index by references is small
-pub refs_small : (store : Store) (slice rows : List (Bor (List Row))) → slice ≡ rows → map (λ (lent : Bor (List Row)). lent.now) rows ≡ map (λ (shard : Shard). shard.rows) store.shards.items
-    → All (λ (lent : Bor (List Row)). length lent.now ≤ 2147483647) rows → IsSmall (view_over store.name store.mapping (map (λ (lent : Bor (List Row)). lent.now) slice))
-refs_small store slice rows same is few =
-    subst (λ them. IsSmall (view_over store.name store.mapping (map (λ (lent : Bor (List Row)). lent.now) them))) (sym same)
-    (record {
-      few = omega (arith, store.few, ap length is, length-map store.shards.items (λ (shard : Shard). shard.rows));
-      rows = All-map (λ (rows : List Row). length rows ≤ 2147483647) (λ (lent : Bor (List Row)). lent.now) rows few;
-    })
+-- a view is what its parts are
+pub view_is : (view : View) (index : List ℕ) (mapping : List Field) (shards : List (List Row)) → index ≡ view.index → mapping ≡ view.mapping → shards ≡ view.shards
+    → view_over index mapping shards ≡ view
+view_is view index mapping shards named mapped rows =
+    ap (λ (it : List ℕ). view_over it mapping shards) named ∙ ap (λ (it : List Field). view_over view.index it shards) mapped ∙ ap (view_over view.index view.mapping) rows

@@ -1,4 +1,5 @@
 pub mod StandingLemmas
-pub mod BookLemmas
+pub mod ContextLemmas
+pub mod Searches
 pub mod IndexLemmas
 pub mod StepLemmas

@@ -2,6 +2,7 @@
 use Rattle.std.specs.Prelude.{◌≡◌, ℕ, ◌<◌, ◌≤◌, [], ◌∷◌, ◌++◌, length, map, filter, All}
 use Rattle.list_machine.specs.declared.event.Entry.{Entry}
 use Rattle.list_machine.specs.declared.event.Event.{Event}
+use Rattle.list_machine.specs.declared.event.Event.TheVariants.{Quiet}
 use Rattle.list_machine.specs.declared.event.Limits.{Limits}
 use Rattle.list_machine.specs.declared.event.Reply.{Reply}
 use Rattle.list_machine.specs.State.{is_live}
@@ -9,17 +10,18 @@ use Rattle.list_machine.specs.Run.{IsBounded, History, PutsObject, reply_of, sta
 use Rattle.es_core.specs.declared.node.Core.{Core}
 use Rattle.es_core.specs.declared.turned.Turned.{Turned}
 use Rattle.es_core.specs.declared.turned.Turned.TheVariants.{Now}
+use Rattle.es_core.specs.Contexts.{contexts_seen}
 use Rattle.es_core.specs.Seen.{index_seen}
 
 -- The core stands for the state that the history leads to: its indexes, next number, moment and limits are those of
--- the state, and so are the contexts that are live or may be said to be. Those that are no longer live may be gone.
+-- the state, and so are the contexts that are live at its moment or at a later one. Those that are live no more may be gone.
 pub record Stands (limits : Limits) (core : Core) (history : History) : Type 0 where
   pub limits_are : core.limits ≡ limits
   pub moment : core.moment ≡ (state_of limits history).moment
   pub next : core.next ≡ (state_of limits history).next
   pub indexes : map index_seen core.indexes.items ≡ (state_of limits history).indexes
   pub contexts : (moment : ℕ) → (state_of limits history).moment ≤ moment
-      → filter (is_live moment) core.book ≡ filter (is_live moment) (state_of limits history).contexts
+      → filter (is_live moment) (contexts_seen core.book.contexts) ≡ filter (is_live moment) (state_of limits history).contexts
   pub objects : All (λ (entry : Entry). PutsObject entry.event) history
   pub bounded : All (λ (entry : Entry). IsBounded entry.event) history
 
@@ -34,6 +36,12 @@ Turns old new event moment turned =
     (limits : Limits) (history : History) (who : ℕ) → Stands limits old history → length history < 9007199254740992
     → Stands limits new (history ++ record { who = who; moment = moment; event = event } ∷ [])
     × Replies (reply_of limits history (record { who = who; moment = moment; event = event })) turned
+
+-- the same of a Quiet, which answers nothing
+abbrev pub Rests : Core → Core → ℕ → Type 0
+Rests old new moment =
+    (limits : Limits) (history : History) (who : ℕ) → Stands limits old history → length history < 9007199254740992
+    → Stands limits new (history ++ record { who = who; moment = moment; event = Quiet } ∷ [])
 
 -- nothing has changed: the core stands for what it stood for
 abbrev pub StandsOn : Core → Core → Type 0

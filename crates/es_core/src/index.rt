@@ -1,15 +1,17 @@
-ghost use Rattle.std.specs.Prelude.{◌≡◌, ◌≤◌, length, map, replicate, All, IfOk, IfSome, OnOk, OnErr};
-ghost use Rattle.list_machine.specs.Run.{IsWithinLimits};
+ghost use Rattle.std.specs.Prelude.{◌≡◌, ◌≤◌, length, map, replicate, IfOk, IfSome, IsSome, OnOk, OnErr};
+ghost use Rattle.std.specs.Arc.{arc_value};
 ghost use Rattle.list_machine.specs.State.{most_shards, view_of};
-ghost use Rattle.list_machine.specs.Step.{search_reply, shard_limit};
-ghost use Rattle.list_machine.specs.Stores.{bounds_of_each};
+ghost use Rattle.list_machine.specs.Stores.{view_over};
 ghost use Rattle.std.proofs.Props.{props};
 
 use crate::homes::{empty_shards, write_home};
 use crate::shard::Shard;
-use es_types::{Bounds, DocId, IndexName, Mapping, NoMemory, Row};
-use list_machine::{Change, Reply, SearchRequest, bounds_of_each, search_rows};
+use crate::viewing::make_view;
+use context_book::View;
+use es_types::{DocId, IndexName, Mapping, NoMemory};
+use list_machine::{Change, Reply};
 use std::alloc::Global;
+use std::sync::Arc;
 
 /// An index, which has at least one shard, and no more than all indexes may have together.
 #[derive(Drop)]
@@ -17,11 +19,11 @@ pub struct Index {
     pub name: IndexName,
     pub mapping: Mapping,
     pub shards: Vec<Shard>,
-    /// Between which values the rows of each shard lie, where a search asked for that behind the last publish.
-    bounds: Option<Vec<Bounds>>,
+    /// What readers see of it, where one was made behind the last publish.
+    view: Option<Arc<View>>,
     ghost some: { 1 ≤ length shards.items },
     ghost few: { length shards.items ≤ most_shards },
-    ghost bounded: { IfSome bounds (λ known. known.items ≡ bounds_of_each mapping (map (λ shard. shard.rows) shards.items)) } by { Prim.hlevel props },
+    ghost shared: { IfSome view (λ it. arc_value it ≡ view_over name mapping (map (λ shard. shard.rows) shards.items)) } by { Prim.hlevel props },
 }
 
 impl Index {
@@ -44,7 +46,7 @@ impl Index {
             name,
             mapping,
             shards: empty_shards(alloc, shards)?,
-            bounds: None,
+            view: None,
         })
     }
 
@@ -77,48 +79,23 @@ impl Index {
         if at as usize >= self.shards.len() {
             return Ok(());
         }
-        self.bounds = None;
+        self.view = None;
         self.shards[at as usize].publish(upto)
     }
 
-    /// A copy of the rows of each shard that a search sees.
-    pub fn view(&self, alloc: Global) -> Result<Vec<Vec<Row>>, NoMemory>
-        ensures rows { IfOk result (λ copies. map (λ rows. rows.items) copies.items ≡ map (λ shard. shard.rows) self.now.shards.items) }
-        ensures few { IfOk result (λ copies. All (λ rows. length rows.items ≤ shard_limit) copies.items) }
-    {
-        let mut copies = Vec::with_capacity(alloc, self.shards.len())?;
-        for shard in &self.shards {
-            copies.push(shard.view(alloc)?)?;
-        }
-        Ok(copies)
-    }
-
-    /// What a search is answered. It looks for the bounds of the rows where none did since the last publish.
-    pub fn search(&mut self, alloc: Global, request: &SearchRequest) -> Result<Reply, NoMemory>
-        requires { IsWithinLimits request.now }
+    /// What a reader sees of the index as it is now. Readers made between two publishes share it.
+    pub fn view(&mut self, alloc: Global) -> Result<Arc<View>, NoMemory>
         ensures like { IsLike self.old self.new }
         ensures same { self.new.shards.items ≡ self.old.shards.items }
-        ensures reply { IfOk result (λ reply. reply ≡ search_reply (view_of (index_seen self.old)) request.now) }
+        ensures view { IfOk result (λ view. arc_value view ≡ view_of (index_seen self.old)) }
+        ensures kept { OnOk result (IsSome self.new.view) }
     {
-        let rows = rows_of(alloc, &self.shards)?;
-        if let Some(bounds) = &self.bounds {
-            return search_rows(alloc, &self.name, &self.mapping, &rows, bounds, request);
+        if let Some(view) = &self.view {
+            return Arc::try_clone(view);
         }
-        let bounds = bounds_of_each(alloc, &self.mapping, &rows)?;
-        let reply = search_rows(alloc, &self.name, &self.mapping, &rows, &bounds, request)?;
-        self.bounds = Some(bounds);
-        Ok(reply)
+        let view = make_view(alloc, &self.name, &self.mapping, &self.shards)?;
+        let view = Arc::new(alloc, view)?;
+        self.view = Some(Arc::try_clone(&view)?);
+        Ok(view)
     }
-}
-
-/// The rows of each shard that a search sees.
-fn rows_of<'a>(alloc: Global, shards: &'a [Shard]) -> Result<Vec<&'a [Row]>, NoMemory>
-    ensures rows { IfOk result (λ rows. map (λ rows. rows.now) rows.items ≡ map (λ shard. shard.rows) shards.now) }
-    ensures few { IfOk result (λ rows. All (λ rows. length rows.now ≤ shard_limit) rows.items) }
-{
-    let mut rows = Vec::with_capacity(alloc, shards.len())?;
-    for shard in shards {
-        rows.push(shard.rows())?;
-    }
-    Ok(rows)
 }

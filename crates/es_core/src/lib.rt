@@ -2,7 +2,7 @@
 //! it doesn't keep (`specs/Stands.antt`).
 #![tactic(auto)]
 
-mod book;
+mod contexts;
 mod creating;
 mod homes;
 mod index;
@@ -12,7 +12,8 @@ mod places;
 mod publishing;
 mod shard;
 mod turned;
+mod viewing;
 mod writing;
 
 pub use node::Core;
-pub use turned::{Brought, Totals, Turned};
+pub use turned::{Brought, Chore, Gathered, Totals, Turned};

@@ -1,20 +1,21 @@
-ghost use Rattle.std.specs.Prelude.{◌≡◌, IfOk};
+ghost use Rattle.std.specs.Prelude.{◌≡◌, IfOk, option_map};
+ghost use Rattle.std.specs.Arc.{arc_value};
 ghost use Rattle.list_machine.specs.declared.event.Event.TheVariants.{Search, Seal};
 ghost use Rattle.list_machine.specs.Run.{IsWithinLimits};
-ghost use Rattle.list_machine.specs.State.{view_of};
+ghost use Rattle.list_machine.specs.State.{index_of, view_of as seen_of};
 ghost use Rattle.list_machine.specs.Step.{happen};
-ghost use Rattle.list_machine.specs.Stores.{IsSmall, context_seen, view_seen};
-ghost use Rattle.es_core.specs.Contexts.{found, live_context};
 ghost use Rattle.es_core.specs.Indexes.{AllNumbered, Moves, Placed};
-ghost use Rattle.es_core.specs.Seen.{index_seen, indexes_seen};
+ghost use Rattle.es_core.specs.Seen.{indexes_seen};
 
-use crate::book::Book;
 use crate::index::Index;
 use crate::places::place_of;
-use es_types::{Copied, IndexName, Items, Moment, NoMemory};
-use list_machine::{ContextStore, Reply, SearchRequest, Target, search_context};
+use crate::viewing::search_over;
+use context_book::View;
+use es_types::{IndexName, Items, NoMemory};
+use list_machine::{Reply, SearchRequest, Target};
 use std::alloc::Global;
 use std::collections::BTreeMap;
+use std::sync::Arc;
 
 /// The number of the last operation of each shard.
 pub fn seal(
@@ -33,21 +34,23 @@ pub fn seal(
     Ok(Reply::Sealed(Items::of(numbers)))
 }
 
-/// A context of an index as it is now.
-pub fn make_context(
+/// What readers see of an index as it is now, where it is there.
+pub fn view_of(
     alloc: Global,
-    index: &Index,
-    number: u64,
-    expiry: u64,
-) -> Result<ContextStore, NoMemory>
-    ensures seen { IfOk result (λ context. context_seen context ≡ record { number = number; view = view_of (index_seen index.now); expiry = expiry }) }
-    ensures number { IfOk result (λ context. context.number ≡ number) }
-    ensures small { IfOk result (λ context. IsSmall (view_seen context)) }
+    places: &BTreeMap<String, usize>,
+    indexes: &mut Vec<Index>,
+    name: &IndexName,
+) -> Result<Option<Arc<View>>, NoMemory>
+    requires placed { Placed places.now indexes.old.items }
+    ensures placed { Placed places.now indexes.new.items }
+    ensures view { IfOk result (λ view. option_map arc_value view ≡ option_map seen_of (index_of name.now (indexes_seen indexes.old.items))) }
+    ensures same { indexes_seen indexes.new.items ≡ indexes_seen indexes.old.items }
 {
-    let name = index.name.copy(alloc)?;
-    let mapping = index.mapping.copy(alloc)?;
-    let shards = index.view(alloc)?;
-    ContextStore::make(alloc, number, name, mapping, shards, expiry)
+    let Some(at) = place_of(places, name) else {
+        return Ok(None);
+    };
+    let view = indexes[at].view(alloc)?;
+    Ok(Some(view))
 }
 
 /// Searches an index as it is now.
@@ -64,25 +67,8 @@ pub fn search_index(
     ensures ok { IfOk result (Moves (λ state. happen state (Search (Target.Index name.now) request.now)) indexes.old.items indexes.new.items) }
     ensures same { indexes_seen indexes.new.items ≡ indexes_seen indexes.old.items }
 {
-    let Some(at) = place_of(places, name) else {
-        return Ok(Reply::NoIndex);
-    };
-    indexes[at].search(alloc, request)
-}
-
-/// Searches the view of a context that is live.
-pub fn search_pit(
-    alloc: Global,
-    book: &Book,
-    moment: Moment,
-    number: u64,
-    request: &SearchRequest,
-) -> Result<Reply, NoMemory>
-    requires { IsWithinLimits request.now }
-    ensures { IfOk result (λ reply. reply ≡ found request.now (live_context number moment book.now)) }
-{
-    let Some(context) = book.find(number, moment) else {
-        return Ok(Reply::Missing);
-    };
-    search_context(alloc, context, request)
+    match view_of(alloc, places, indexes, name)? {
+        Some(view) => search_over(alloc, &view, request),
+        None => Ok(Reply::NoIndex),
+    }
 }

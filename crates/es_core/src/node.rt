@@ -1,14 +1,14 @@
-ghost use Rattle.std.specs.Prelude.{◌≡◌, ◌<◌, ℕ, List, [], All, IfOk, OnErr, bytes_eq, position};
+ghost use Rattle.std.specs.Prelude.{◌≡◌, ◌<◌, ℕ, List, [], max, filter, count_by, All, IfOk, OnOk, OnErr, bytes_eq, position};
 ghost use Rattle.std.specs.BTreeMap.{get_by_text};
 
-use crate::book::Book;
+use crate::contexts::{close, is_opened, open, reap, search_pit};
 use crate::creating::{create, put_down};
 use crate::index::Index;
-use crate::looking::{make_context, seal, search_index, search_pit};
-use crate::places::place_of;
+use crate::looking::{seal, search_index, view_of};
 use crate::publishing::publish;
 use crate::writing::write;
-use crate::{Brought, Totals, Turned};
+use crate::{Brought, Chore, Gathered, Totals, Turned};
+use context_book::ContextBook;
 use es_types::{IndexName, KeepAlive, Mapping, Moment, NoMemory};
 use list_machine::{Event, Limits, Reply, Target, docs, sound_states};
 use std::alloc::Global;
@@ -23,15 +23,17 @@ pub struct Core {
     next: u64,
     places: BTreeMap<String, usize>,
     indexes: Vec<Index>,
-    book: Book,
+    book: ContextBook,
     ghost placed: { (name : List ℕ) → get_by_text places name ≡ position (λ index. bytes_eq index.name name) indexes.items },
-    ghost issued: { All (λ context. context.number < next) book },
+    ghost issued: { All (λ context. context.number < next) book.contexts },
+    ghost limited: { book.limit ≡ limits.pits },
 }
 
 impl Core {
     ghost use Rattle.list_machine.specs.declared.event.Event.TheVariants.{OpenPit};
+    ghost use Rattle.context_book.specs.Books.{has_ended, lives};
     ghost use Rattle.list_machine.specs.Run.{IsBounded, PutsObject};
-    ghost use Rattle.es_core.specs.Stands.{Stands, StandsOn, Turns};
+    ghost use Rattle.es_core.specs.Stands.{Rests, Stands, StandsOn, Turns};
     ghost use Rattle.es_core.specs.Steps.{IsSame, Steps};
 
     /// A core with the empty index `docs`, which stands for the empty history.
@@ -49,7 +51,7 @@ impl Core {
             next: 1,
             places,
             indexes,
-            book: Book::make(alloc),
+            book: ContextBook::make(alloc, limits.pits),
         })
     }
 
@@ -111,15 +113,19 @@ impl Core {
                     index,
                     request,
                 ),
-                Target::Pit { number } => {
-                    search_pit(self.alloc, &self.book, moment, *number, request)
+                Target::Pit { number, keep } => {
+                    search_pit(self.alloc, &mut self.book, moment, *number, *keep, request)
                 }
             },
+            Event::Close { which } => {
+                let freed = close(&mut self.book, moment, which)?;
+                Ok(Reply::Closed { freed })
+            }
             Event::Quiet => Ok(Reply::Done),
         }
     }
 
-    /// Copies the rows of an index into a new context, unless as many as may be are live.
+    /// Opens a reader of an index, which its context owns, unless as many as may be are live.
     fn open_pit(
         &mut self,
         moment: Moment,
@@ -129,23 +135,37 @@ impl Core {
         ensures steps { IfOk result (Steps self.old self.new moment (OpenPit name.now keep.now)) }
         ensures err { OnErr result (IsSame self.old self.new) }
     {
-        let Some(at) = place_of(&self.places, name) else {
-            return Ok(Reply::NoIndex);
-        };
-        let limit = self.limits.pits;
-        if self.book.live(moment) == limit {
-            return Ok(Reply::TooMany { limit });
-        }
         let number = self.next;
         if number == u64::MAX {
             // No number is left, which needs a longer history than there may be.
             return Ok(Reply::Spent);
         }
+        let Some(view) = view_of(self.alloc, &self.places, &mut self.indexes, name)? else {
+            return Ok(Reply::NoIndex);
+        };
         let expiry = moment.millis() + keep.millis();
-        let context = make_context(self.alloc, &self.indexes[at], number, expiry)?;
-        self.book.open(context)?;
-        self.next = number + 1;
-        Ok(Reply::Opened { number })
+        let reply = open(self.alloc, &mut self.book, moment, number, view, expiry)?;
+        if is_opened(&reply) {
+            self.next = number + 1;
+        }
+        Ok(reply)
+    }
+
+    /// Takes the step of a Quiet, and lets go exactly the contexts that are live no more, which no reply shows. After `NoMemory`
+    /// nothing has changed, and where none has ended it doesn't come.
+    pub fn quiet(&mut self, chore: Chore, moment: Moment) -> Result<Gathered, NoMemory>
+        ensures rests { OnOk result (Rests self.old self.new moment) }
+        ensures reaped { OnOk result (self.new.book ≡ record self.old.book { contexts = filter (lives (max self.old.moment moment)) self.old.book.contexts }) }
+        ensures some { OnErr result (0 < count_by (has_ended (max self.old.moment moment)) self.old.book.contexts) }
+        ensures err { OnErr result (StandsOn self.old self.new) }
+    {
+        sound_states();
+        let later = self.moment.later(moment);
+        match chore {
+            Chore::Reap => reap(&mut self.book, later)?,
+        }
+        self.moment = later;
+        Ok(Gathered::Nothing)
     }
 
     pub fn totals(&self) -> Totals

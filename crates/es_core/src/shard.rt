@@ -62,14 +62,6 @@ impl Shard {
         self.base.saturating_add(self.pending.len() as u64)
     }
 
-    /// The rows that a search sees.
-    pub fn rows(&self) -> &[Row]
-        ensures rows { result.now ≡ self.now.rows }
-        ensures few { length result.now ≤ shard_limit }
-    {
-        self.rows.as_slice()
-    }
-
     /// A copy of the rows that a search sees.
     pub fn view(&self, alloc: Global) -> Result<Vec<Row>, NoMemory>
         ensures rows { IfOk result (λ rows. rows.items ≡ self.now.rows) }

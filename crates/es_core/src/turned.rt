@@ -12,8 +12,21 @@ pub enum Turned {
     Now(Reply),
 }
 
+/// What a quiet does beside.
+#[derive(Clone, Copy)]
+pub enum Chore {
+    /// Lets the contexts go that are live no more.
+    Reap,
+}
+
+/// What a quiet gathers: nothing, so far.
+#[derive(Clone, Copy)]
+pub enum Gathered {
+    Nothing,
+}
+
 /// How many readers of views were made, shut and ended, how many segments there are, and how many contexts are left.
-/// Views have no readers and shards no segments yet, so all are 0.
+/// None is counted yet, so all are 0.
 #[derive(Clone, Copy)]
 pub struct Totals {
     pub opened: u64,

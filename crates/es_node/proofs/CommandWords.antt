@@ -3,7 +3,8 @@ use Rattle.std.proofs.Common.{◌≡◌, ℕ, List, [], ◌∷◌, length, get_o
 use Rattle.std.specs.Prelude.{bytes_eq, codes}
 use Rattle.es_node.specs.Running.{is_replay}
 
-pub one_word : (words : List (List ℕ)) (word : List ℕ) → length words ≡ 1 → word ≡ get_or words 0 word → is_replay words ≡ bytes_eq word (codes "replay")
+pub one_word : (words : List (List ℕ)) (word : List ℕ) → length words ≡ 1 → word ≡ get_or words 0 word
+    → is_replay words ≡ bytes_eq word (codes "replay")
 one_word [] word one is = absurd (omega (arith, one))
 one_word (w ∷ []) word one is = ap (λ (x : List ℕ). bytes_eq x (codes "replay")) (sym is)
 one_word (w ∷ v ∷ words) word one is = absurd (omega (arith, one))

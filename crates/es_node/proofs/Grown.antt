@@ -1,15 +1,20 @@
--- Histories that grow by entries of one seat.
-use Rattle.std.proofs.Common.{◌≡◌, refl, sym, ap, subst, ◌∙◌, inl, inr, ⊎_elim, ◌⊎◌, ℕ, ◌+◌, ◌≤◌, [], ◌∷◌, ◌++◌, length, arith, append_assoc, length-append}
+-- Histories that grow by entries of one seat, and by Quiets beside them.
+use Rattle.std.proofs.Common.{◌≡◌, refl, sym, ap, subst, ◌∙◌, ⊎_elim, ℕ, [], ◌∷◌, ◌++◌, length, arith, append_assoc, length-append}
 use Rattle.std.specs.Prelude.{All, ◌≢◌}
 use Rattle.std.proofs.lemmas.List.{append-nil}
 use Rattle.std.proofs.lemmas.List.Elements.{All-nil, All-cons, All-head, All-tail}
 use Rattle.list_machine.specs.declared.event.Entry.{Entry}
+use Rattle.list_machine.specs.declared.event.Event.{Event}
 use Rattle.list_machine.specs.declared.event.Reply.{Reply}
-use Rattle.list_machine.specs.declared.event.Reply.TheVariants.{Spent}
 use Rattle.list_machine.specs.declared.event.Limits.{Limits}
-use Rattle.list_machine.specs.Run.{History, reply_of}
-use Rattle.list_machine.specs.Serving.{Asked, GrowsBeside, asking}
-use Rattle.es_node.specs.Solo.{AreOwn}
+use Rattle.list_machine.specs.State.{State, start}
+use Rattle.list_machine.specs.Step.{at_moment, happen, step}
+use Rattle.list_machine.specs.Run.{History, run, state_of}
+use Rattle.list_machine.specs.Serving.{Asked, GrowsBeside, IsAnswered, asked, asking, besides}
+use Rattle.list_machine.proofs.Runs.{run-append}
+use Rattle.es_node.specs.Solo.{AreOwn, IsOwn}
+use Rattle.es_node.specs.Repeats.{HasRoom}
+use Rattle.es_node.proofs.AtMoment.{IsQuietAt, quiets_pass, state_at}
 
 -- ---- growing
 
@@ -26,14 +31,18 @@ grew_on old mid new first second =
 pub beside_grew : (seat most moment : ℕ) (old new : History) → GrowsBeside seat most moment old new → Grew old new
 beside_grew seat most moment old new h = (h.more, h.grows)
 
-pub asked_grew : (limits : Limits) (old new : History) (entry : Entry) (reply : Reply) → Asked limits 0 4 old new entry reply → Grew old new
+pub asked_grew : (limits : Limits) (old new : History) (entry : Entry) (reply : Reply) → Asked limits 0 4 old new entry reply
+    → Grew old new
 asked_grew limits old new entry reply was =
     ⊎_elim
-    (λ answered. (answered.adds.before ++ entry ∷ answered.adds.after, answered.adds.grows ∙ append_assoc old answered.adds.before (entry ∷ answered.adds.after)))
+    (λ answered. (
+      answered.adds.before ++ entry ∷ answered.adds.after,
+      answered.adds.grows ∙ append_assoc old answered.adds.before (entry ∷ answered.adds.after),
+    ))
     (λ spent. beside_grew 0 4 entry.moment old new spent.beside)
     was
 
--- ---- by entries of the seat 0 alone
+-- ---- by entries of one seat, with room left
 
 all_front : (P : Entry → Type 0) (xs ys : History) → All P (xs ++ ys) → All P xs
 all_front P [] ys h = All-nil P
@@ -43,73 +52,90 @@ all_back : (P : Entry → Type 0) (xs ys : History) → All P (xs ++ ys) → All
 all_back P [] ys h = h
 all_back P (x ∷ xs) ys h = all_back P xs ys (All-tail P x (xs ++ ys) h)
 
--- entries of the seat 0, not too many
 pub record Fits (limits : Limits) (history : History) : Type 0 where
   pub own : AreOwn history
-  pub room : length history ≤ limits.entries
+  pub room : HasRoom limits history
 
+-- what fits did so before it grew
 pub fits_before : (limits : Limits) (old new : History) → Grew old new → Fits limits new → Fits limits old
 fits_before limits old new grew fits =
     let long : length new ≡ length (old ++ grew.0) = ap (λ (l : History). length l) grew.1 in
     record {
-      own = all_front (λ (e : Entry). e.who ≡ 0) old grew.0 (subst AreOwn grew.1 fits.own);
+      own = all_front IsOwn old grew.0 (subst AreOwn grew.1 fits.own);
       room = omega (arith, long, length-append old grew.0, fits.room);
     }
 
-no_more : (more : History) → AreOwn more → All (λ (e : Entry). e.who ≢ asking 0) more → more ≡ []
-no_more [] own none = refl
-no_more (e ∷ more) own none =
-    absurd (All-head (λ (e : Entry). e.who ≢ asking 0) e more none (All-head (λ (e : Entry). e.who ≡ 0) e more own))
+-- ---- what is beside
 
-pub beside_same : (limits : Limits) (most moment : ℕ) (old new : History) → Fits limits new → GrowsBeside 0 most moment old new → new ≡ old
-beside_same limits most moment old new fits h =
-    let own : AreOwn h.more = all_back (λ (e : Entry). e.who ≡ 0) old h.more (subst AreOwn h.grows fits.own) in
-    h.grows ∙ ap (λ (l : History). old ++ l) (no_more h.more own h.beside.none_asked) ∙ append-nil old
+abbrev IsNotAsked : Entry → Type 0
+IsNotAsked entry = entry.who ≢ asking 0
 
--- the asked entry alone was added, or the history is full
-abbrev pub Alone : Limits → History → History → Entry → Reply → Type 0
-Alone limits old new entry reply =
-    ((new ≡ old ++ entry ∷ []) × (reply ≡ reply_of limits old entry)) ⊎ ((new ≡ old) × (length old ≡ limits.entries) × (reply ≡ Spent))
+abbrev IsQuietBeside : ℕ → Entry → Type 0
+IsQuietBeside moment entry = entry.who ≡ besides 0 → IsQuietAt moment entry
 
-asked_alone : (limits : Limits) (old new : History) (entry : Entry) (reply : Reply) → Fits limits new → Asked limits 0 4 old new entry reply → Alone limits old new entry reply
-asked_alone limits old new entry reply fits was =
+-- entries of one seat that it did not ask for are Quiets of the moment
+own_quiet : (moment : ℕ) (more : History) → AreOwn more → All IsNotAsked more → All (IsQuietBeside moment) more
+    → All (IsQuietAt moment) more
+own_quiet moment [] own none quiet = All-nil (IsQuietAt moment)
+own_quiet moment (entry ∷ more) own none quiet =
+    All-cons (IsQuietAt moment) entry more
+    (⊎_elim
+    (λ zero. absurd (All-head IsNotAsked entry more none zero))
+    (λ one. All-head (IsQuietBeside moment) entry more quiet one.0)
+    (All-head IsOwn entry more own))
+    (own_quiet moment more (All-tail IsOwn entry more own) (All-tail IsNotAsked entry more none)
+    (All-tail (IsQuietBeside moment) entry more quiet))
+
+-- the state behind a history that grew
+behind : (limits : Limits) (old more new : History) → new ≡ old ++ more → state_of limits new ≡ run (state_of limits old) more
+behind limits old more new grows = ap (state_of limits) grows ∙ run-append old more (start limits)
+
+-- what grew beside leaves what the moment finds
+pub beside_passes : (limits : Limits) (most moment : ℕ) (old new : History) → AreOwn new → GrowsBeside 0 most moment old new
+    → state_at limits new moment ≡ state_at limits old moment
+beside_passes limits most moment old new own h =
+    let mine : AreOwn h.more = all_back IsOwn old h.more (subst AreOwn h.grows own) in
+    ap (λ (s : State). at_moment s moment) (behind limits old h.more new h.grows)
+    ∙ quiets_pass moment h.more (state_of limits old) (own_quiet moment h.more mine h.beside.none_asked h.beside.quiet)
+
+-- ---- what is asked
+
+-- what an event makes of a history: the reply, and what the moment finds behind it
+pub record Comes (limits : Limits) (moment : ℕ) (old new : History) (event : Event) (reply : Reply) : Type 0 where
+  pub reply_is : reply ≡ (happen (state_at limits old moment) event).1
+  pub state_is : state_at limits new moment ≡ at_moment (happen (state_at limits old moment) event).0 moment
+
+answered_comes : (limits : Limits) (moment : ℕ) (old new : History) (event : Event) (reply : Reply) → AreOwn new
+    → IsAnswered limits 0 4 old new (asked 0 moment event) reply → Comes limits moment old new event reply
+answered_comes limits moment old new event reply own h =
+    let entry = asked 0 moment event in
+    let before = h.adds.before in
+    let after = h.adds.after in
+    let beside = h.adds.beside in
+    let grows : new ≡ old ++ (before ++ entry ∷ after) = h.adds.grows ∙ append_assoc old before (entry ∷ after) in
+    let mine : AreOwn (before ++ entry ∷ after) = all_back IsOwn old (before ++ entry ∷ after) (subst AreOwn grows own) in
+    let first : All (IsQuietAt moment) before = own_quiet moment before (all_front IsOwn before (entry ∷ after) mine)
+    (all_front IsNotAsked before after beside.none_asked) (all_front (IsQuietBeside moment) before after beside.quiet) in
+    let last : All (IsQuietAt moment) after
+    = own_quiet moment after (All-tail IsOwn entry after (all_back IsOwn before (entry ∷ after) mine))
+    (all_back IsNotAsked before after beside.none_asked) (all_back (IsQuietBeside moment) before after beside.quiet) in
+    let mid = old ++ before in
+    let found : state_at limits mid moment ≡ state_at limits old moment
+    = ap (λ (s : State). at_moment s moment) (behind limits old before mid refl)
+    ∙ quiets_pass moment before (state_of limits old) first in
+    let then : state_at limits new moment ≡ at_moment (step (state_of limits mid) entry).0 moment
+    = ap (λ (s : State). at_moment s moment) (behind limits mid (entry ∷ after) new h.adds.grows)
+    ∙ quiets_pass moment after (step (state_of limits mid) entry).0 last in
+    record {
+      reply_is = h.is ∙ ap (λ (s : State). (happen s event).1) found;
+      state_is = then ∙ ap (λ (s : State). at_moment (happen s event).0 moment) found;
+    }
+
+-- with room left it is answered
+pub asked_comes : (limits : Limits) (moment : ℕ) (old new : History) (event : Event) (reply : Reply) → Fits limits new
+    → Asked limits 0 4 old new (asked 0 moment event) reply → Comes limits moment old new event reply
+asked_comes limits moment old new event reply fits was =
     ⊎_elim
-    (λ answered.
-    let before = answered.adds.before in
-    let after = answered.adds.after in
-    let all : AreOwn (before ++ entry ∷ after) = all_back (λ (e : Entry). e.who ≡ 0) old (before ++ entry ∷ after) (subst AreOwn (answered.adds.grows ∙ append_assoc old before (entry ∷ after)) fits.own) in
-    let none = answered.adds.beside.none_asked in
-    let nothing : before ≡ [] = no_more before (all_front (λ (e : Entry). e.who ≡ 0) before (entry ∷ after) all)
-    (all_front (λ (e : Entry). e.who ≢ asking 0) before after none) in
-    let neither : after ≡ [] = no_more after (All-tail (λ (e : Entry). e.who ≡ 0) entry after (all_back (λ (e : Entry). e.who ≡ 0) before (entry ∷ after) all))
-    (all_back (λ (e : Entry). e.who ≢ asking 0) before after none) in
-    inl (
-      answered.adds.grows ∙ ap (λ (l : History). (old ++ l) ++ entry ∷ after) nothing ∙ ap (λ (l : History). l ++ entry ∷ after) (append-nil old) ∙ ap (λ (l : History). old ++ entry ∷ l) neither,
-      answered.is ∙ ap (λ (l : History). reply_of limits (old ++ l) entry) nothing ∙ ap (λ (l : History). reply_of limits l entry) (append-nil old),
-    ))
-    (λ spent.
-    let same : new ≡ old = beside_same limits 4 entry.moment old new fits spent.beside in
-    inr (same, ap (λ (l : History). length l) (sym same) ∙ spent.full, spent.is))
+    (λ answered. answered_comes limits moment old new event reply fits.own answered)
+    (λ spent. absurd (omega (arith, spent.full, fits.room)))
     was
-
--- so many entries are too many
-too_many : (limits : Limits) (old new : History) (entry : Entry) → new ≡ old ++ entry ∷ [] → Fits limits new → length old ≡ limits.entries → ⊥
-too_many limits old new entry grows fits full =
-    let long : length new ≡ length (old ++ entry ∷ []) = ap (λ (l : History). length l) grows in
-    let one : length (old ++ entry ∷ []) ≡ length old + 1 = length-append old (entry ∷ []) in
-    omega (arith, long, one, full, fits.room)
-
--- asked twice, it is answered alike
-pub asked_alike : (limits : Limits) (old new other : History) (entry : Entry) (reply said : Reply) → Fits limits new → Fits limits other
-    → Asked limits 0 4 old new entry reply → Asked limits 0 4 old other entry said → (new ≡ other) × (reply ≡ said)
-asked_alike limits old new other entry reply said fits fit was is =
-    ⊎_elim
-    (λ a. ⊎_elim
-    (λ b. (a.0 ∙ sym b.0, a.1 ∙ sym b.1))
-    (λ b. absurd (too_many limits old new entry a.0 fits b.1))
-    (asked_alone limits old other entry said fit is))
-    (λ a. ⊎_elim
-    (λ b. absurd (too_many limits old other entry b.0 fit a.1))
-    (λ b. (a.0 ∙ sym b.0, a.2 ∙ sym b.2))
-    (asked_alone limits old other entry said fit is))
-    (asked_alone limits old new entry reply fits was)

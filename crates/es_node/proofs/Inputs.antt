@@ -1,7 +1,5 @@
 -- Whole inputs, and two runs over one input.
-use Rattle.std.proofs.Common.{◌≡◌, refl, sym, ap, ap₂, subst, ◌∙◌, inl, inr, ⊎_elim, ℕ, List, [], ◌∷◌, ◌++◌, take, Option, Some, None, arith}
-use Rattle.std.specs.Prelude.{All}
-use Rattle.std.proofs.lemmas.List.Elements.{All-head, All-tail}
+use Rattle.std.proofs.Common.{◌≡◌, refl, sym, ap, ap₂, subst, ◌∙◌, inl, inr, ⊎_elim, ℕ, List, ◌++◌, take, Option, Some, None, arith}
 use Rattle.es_outside.specs.Told.{Rose}
 use Rattle.http_wire.specs.Requests.{IsEnd, connection_limit}
 use Rattle.http_wire.proofs.OneHead.{ends_apart, spells_one}
@@ -10,17 +8,20 @@ use Rattle.es_rest.specs.declared.connection.ConnEnd.TheVariants as end
 use Rattle.es_node.specs.declared.run.Status.{Status}
 use Rattle.es_node.specs.declared.run.Status.TheVariants.{Done, ReadFault, WriteFault}
 use Rattle.es_rest.specs.Headline.{EndsWith, WroteWords, requests_of, texts_of, last_words}
-use Rattle.es_node.specs.Repeats.{Completes, EndsItself, NeverWants, moments_of}
-use Rattle.es_node.specs.Running.{Replays, ServedOne, end_status}
+use Rattle.es_rest.specs.Moments.{moments_of as clock_moments}
+use Rattle.es_node.specs.Repeats.{Completes, EndsItself, HasRoom, NeverWants, ServesAlone, moments_of}
+use Rattle.es_node.specs.Running.{Replays, ServedOne, end_status, limits}
 use Rattle.es_rest.specs.Talk.{Exchange}
 use Rattle.es_rest.proofs.Whole.{which_end}
-use Rattle.es_node.proofs.Alike.{no_first, others_same, same_responses}
+use Rattle.es_node.proofs.Alike.{same_responses}
 
 -- a run over a whole input
-completes_one : (bytes : List ℕ) (after written now : Option (List ℕ)) (reads reads_after writes writes_after : ℕ) (status : Status) → ServedOne (Some bytes) after written now status
+completes_one : (bytes : List ℕ) (after written now : Option (List ℕ)) (reads reads_after writes writes_after : ℕ) (status : Status)
+    → ServedOne (Some bytes) after written now status
     → (status ≡ ReadFault → Rose reads reads_after) → (status ≡ WriteFault → Rose writes writes_after)
     → Completes (Some bytes) after written now reads reads_after writes writes_after status
-completes_one bytes after written now reads reads_after writes writes_after status one read write requests spells room no_read no_write =
+completes_one bytes after written now reads reads_after writes writes_after status one read write requests spells room no_read
+    no_write =
     ⊎_elim
     (λ wants. inl (one.status_is ∙ ap end_status wants))
     (λ done.
@@ -44,13 +45,15 @@ completes_one bytes after written now reads reads_after writes writes_after stat
     (λ e. no_read (read (one.status_is ∙ ap end_status e)))
     (λ e. no_write (write (one.status_is ∙ ap end_status e))))
 
-pub completes : (left after written now : Option (List ℕ)) (reads reads_after writes writes_after : ℕ) (status : Status) → Replays left after written now status
+pub completes : (left after written now : Option (List ℕ)) (reads reads_after writes writes_after : ℕ) (status : Status)
+    → Replays left after written now status
     → (status ≡ ReadFault → Rose reads reads_after) → (status ≡ WriteFault → Rose writes writes_after)
     → Completes left after written now reads reads_after writes writes_after status
 completes None after written now reads reads_after writes writes_after status replays read write = tt
 completes (Some bytes) after written now reads reads_after writes writes_after status replays read write =
     λ requests spells room no_read no_write. ⊎_elim
-    (λ one. completes_one bytes after written now reads reads_after writes writes_after status one read write requests spells room no_read no_write)
+    (λ one. completes_one bytes after written now reads reads_after writes writes_after status one read write
+    requests spells room no_read no_write)
     (λ none. inl none.status_is)
     replays
 
@@ -67,7 +70,8 @@ is_end bytes rest end.WriteFault itself h = absurd itself
 is_end bytes rest end.NoMemory itself h = absurd itself
 
 -- and one cause only
-one_end : (bytes rest : List ℕ) (a b : ConnEnd) → EndsItself (end_status a) → EndsItself (end_status b) → EndsWith bytes rest a → EndsWith bytes rest b → a ≡ b
+one_end : (bytes rest : List ℕ) (a b : ConnEnd) → EndsItself (end_status a) → EndsItself (end_status b) → EndsWith bytes rest a
+    → EndsWith bytes rest b → a ≡ b
 one_end bytes rest end.Done end.Done i j h k = refl
 one_end bytes rest end.Done end.Truncated i j h k = absurd (k.1 h.1)
 one_end bytes rest end.Done end.Refused i j h k = absurd (ends_apart rest (inl h.1) k)
@@ -91,21 +95,10 @@ one_end bytes rest a end.ReadFault i j h k = absurd j
 one_end bytes rest a end.WriteFault i j h k = absurd j
 one_end bytes rest a end.NoMemory i j h k = absurd j
 
-abbrev AtZero : Exchange → Type 0
-AtZero x = x.moment ≡ 0
-
--- the clock stands still, so as many requests have the same moments
-same_moments : (served others : List Exchange) → All AtZero served → All AtZero others → requests_of served ≡ requests_of others → moments_of served ≡ moments_of others
-same_moments [] [] h k e = refl
-same_moments [] (y ∷ others) h k e = absurd (no_first _ _ (sym e))
-same_moments (x ∷ served) [] h k e = absurd (no_first _ _ e)
-same_moments (x ∷ served) (y ∷ others) h k e =
-    ap₂ (λ (m : ℕ) (l : List ℕ). m ∷ l) (All-head AtZero x served h ∙ sym (All-head AtZero y others k))
-    (same_moments served others (All-tail AtZero x served h) (All-tail AtZero y others k)
-    (others_same x.request y.request (requests_of served) (requests_of others) e))
-
 -- what was written, where nothing failed
-wrote_all : (left rest : Option (List ℕ)) (written : List ℕ) (after : Option (List ℕ)) (served : List Exchange) (ended : ConnEnd) → EndsItself (end_status ended) → WroteWords left rest written after served ended → after ≡ Some (written ++ (texts_of served ++ last_words ended))
+wrote_all : (left rest : Option (List ℕ)) (written : List ℕ) (after : Option (List ℕ)) (served : List Exchange) (ended : ConnEnd)
+    → EndsItself (end_status ended) → WroteWords left rest written after served ended
+    → after ≡ Some (written ++ (texts_of served ++ last_words ended))
 wrote_all left rest written after served end.Done itself h = h
 wrote_all left rest written after served end.Truncated itself h = h
 wrote_all left rest written after served end.Refused itself h = h
@@ -114,11 +107,26 @@ wrote_all left rest written after served end.ReadFault itself h = absurd itself
 wrote_all left rest written after served end.WriteFault itself h = absurd itself
 wrote_all left rest written after served end.NoMemory itself h = absurd itself
 
+-- a run whose history kept room served alone
+served_alone : {left after written now : Option (List ℕ)} {status : Status} (one : ServedOne left after written now status)
+    → NeverWants one.headline.served → HasRoom limits one.history → ServesAlone limits one.history one.headline.served
+served_alone one ample room =
+    record {
+      kept = one.kept;
+      room = room;
+      own = one.own;
+      serves = one.headline.serves;
+      never_fall = one.headline.moments.never_fall;
+      ample = ample;
+    }
+
 pub same_bytes : (bytes written : List ℕ) (left after now later : Option (List ℕ)) (status ended : Status)
-    (one : ServedOne (Some bytes) left (Some written) now status) (other : ServedOne (Some bytes) after (Some written) later ended)
-    → NeverWants one.headline.served → NeverWants other.headline.served → EndsItself status → EndsItself ended
-    → (now ≡ later) × (status ≡ ended)
-same_bytes bytes written left after now later status ended one other ample enough itself too =
+    (one : ServedOne (Some bytes) left (Some written) now status)
+    (other : ServedOne (Some bytes) after (Some written) later ended)
+    → NeverWants one.headline.served → NeverWants other.headline.served → HasRoom limits one.history
+    → HasRoom limits other.history
+    → EndsItself status → EndsItself ended → (now ≡ later) × (status ≡ ended)
+same_bytes bytes written left after now later status ended one other ample enough room free itself too =
     let i : EndsItself (end_status one.end) = subst EndsItself one.status_is itself in
     let j : EndsItself (end_status other.end) = subst EndsItself other.status_is too in
     let h = one.headline.reads.0 in
@@ -129,10 +137,11 @@ same_bytes bytes written left after now later status ended one other ample enoug
     h.spells (is_end bytes h.rest one.end i h.ends) k.spells (is_end bytes k.rest other.end j k.ends) in
     let end_is : one.end ≡ other.end = one_end bytes k.rest one.end other.end i j
     (subst (λ (l : List ℕ). EndsWith bytes l one.end) cut.1 h.ends) k.ends in
-    let moments = same_moments served others one.headline.moments.told other.headline.moments.told cut.0 in
-    let same = (same_responses _ one.history other.history served others
-    (record { kept = one.kept; own = one.own; serves = one.headline.serves; ample = ample })
-    (record { kept = other.kept; own = other.own; serves = other.headline.serves; ample = enough }) cut.0 moments).1 in (
+    let moments : moments_of served ≡ moments_of others
+    = one.headline.moments.told ∙ (ap (clock_moments 0 0) cut.0 ∙ sym other.headline.moments.told) in
+    let same = same_responses limits one.history other.history served others
+    (served_alone one ample room) (served_alone other enough free)
+    cut.0 moments in (
       wrote_all _ _ written now served one.end i one.headline.writes
           ∙ ap₂ (λ (l : List Exchange) (e : ConnEnd). Some (written ++ (texts_of l ++ last_words e))) same end_is
           ∙ sym (wrote_all _ _ written later others other.end j other.headline.writes),

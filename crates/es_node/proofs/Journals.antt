@@ -1,20 +1,20 @@
 -- The journal of a service with one caller.
-use Rattle.std.proofs.Common.{◌≡◌, MatchResult, Result, Ok, Err, refl, sym, ap, subst, ◌∙◌, inl, inr, ℕ, ◌<◌, ◌≤◌, [], ◌∷◌, ◌++◌, length, arith, length-append}
-use Rattle.std.specs.Prelude.{IfOk, OnErr}
+use Rattle.std.proofs.Common.{◌≡◌, MatchResult, Result, Ok, Err, refl, sym, ap, subst, ◌∙◌, inl, inr, ℕ, ◌+◌, ◌<◌, ◌≤◌, [], ◌∷◌, ◌++◌, length, arith, length-append}
+use Rattle.std.specs.Prelude.{IfOk, OnOk, OnErr, count_by, ◌≢◌, ◌==◌}
 use Rattle.std.proofs.lemmas.List.{append-nil}
 use Rattle.std.proofs.lemmas.List.Elements.{All-nil, All-cons, All-append}
 use Rattle.list_machine.specs.declared.event.Entry.{Entry}
 use Rattle.list_machine.specs.declared.event.Event.{Event}
-use Rattle.list_machine.specs.declared.event.Event.TheVariants.{Create, Write, Seal, Publish, OpenPit, Search, Quiet}
+use Rattle.list_machine.specs.declared.event.Event.TheVariants.{Create, Write, Seal, Publish, OpenPit, Search, Close, Quiet}
 use Rattle.list_machine.specs.declared.event.Change.TheVariants.{Put, Remove}
 use Rattle.list_machine.specs.declared.event.Limits.{Limits}
 use Rattle.list_machine.specs.declared.event.Reply.{Reply}
 use Rattle.list_machine.specs.declared.event.Reply.TheVariants.{Spent}
 use Rattle.list_machine.specs.Run.{History, reply_of, IsBounded, PutsObject}
-use Rattle.list_machine.specs.Serving.{Asked, IsAskable, IsKept, MayHaveAsked, asked}
+use Rattle.list_machine.specs.Serving.{Asked, Beside, GrowsBeside, IsAskable, IsKept, MayHaveAsked, asked, asking, besides}
 use Rattle.es_core.specs.declared.node.Core.{Core}
-use Rattle.es_core.specs.Stands.{Stands, StandsOn}
-use Rattle.es_node.specs.Solo.{Advances, IsRunning}
+use Rattle.es_core.specs.Stands.{Rests, Stands, StandsOn}
+use Rattle.es_node.specs.Solo.{Advances, IsOwn, IsRunning, rest}
 use Rattle.es_rest.proofs.Talks.{grows_not}
 
 -- what may be asked puts objects alone
@@ -26,6 +26,7 @@ askable_object limits history (Seal index) h = tt
 askable_object limits history (Publish index shard upto) h = tt
 askable_object limits history (OpenPit index keep) h = tt
 askable_object limits history (Search target request) h = tt
+askable_object limits history (Close which) h = tt
 askable_object limits history Quiet h = absurd h
 
 -- and is within bounds
@@ -36,15 +37,18 @@ askable_bounded limits history (Seal index) h = tt
 askable_bounded limits history (Publish index shard upto) h = tt
 askable_bounded limits history (OpenPit index keep) h = tt
 askable_bounded limits history (Search target request) h = h
+askable_bounded limits history (Close which) h = tt
 askable_bounded limits history Quiet h = absurd h
 
 -- the history is full
-pub spent : (limits : Limits) (moment : ℕ) (event : Event) (history : History) → IsKept limits history → limits.entries ≤ length history → Asked limits 0 4 history history (asked 0 moment event) Spent
+pub spent : (limits : Limits) (moment : ℕ) (event : Event) (history : History) → IsKept limits history
+    → limits.entries ≤ length history → Asked limits 0 4 history history (asked 0 moment event) Spent
 spent limits moment event history kept full =
     inr (record { beside = grows_not 0 4 moment history; full = omega (arith, kept.room, full); is = refl })
 
 -- the entry that was asked stands at the end
-added : (limits : Limits) (moment : ℕ) (event : Event) (history new : History) (reply : Reply) → new ≡ history ++ asked 0 moment event ∷ [] → reply ≡ reply_of limits history (asked 0 moment event)
+added : (limits : Limits) (moment : ℕ) (event : Event) (history new : History) (reply : Reply)
+    → new ≡ history ++ asked 0 moment event ∷ [] → reply ≡ reply_of limits history (asked 0 moment event)
     → Asked limits 0 4 history new (asked 0 moment event) reply
 added limits moment event history new reply is said =
     inl (record {
@@ -58,40 +62,92 @@ added limits moment event history new reply is said =
     })
 
 -- there is room for one more
-room_left : (limits : Limits) (history : History) → IsKept limits history → length history < limits.entries → length history < 9007199254740992
+room_left : (limits : Limits) (history : History) → IsKept limits history → length history < limits.entries
+    → length history < 9007199254740992
 room_left limits history kept room = omega (arith, kept.bounded, room)
 
 -- what a step of the core says of the history
-pub stepped : (limits : Limits) (moment : ℕ) (event : Event) (old new : Core) (history now : History) {E : Type 0} (r : Result Reply E) → IsRunning limits old history → length history < limits.entries
-    → IfOk r (Advances old new (asked 0 moment event)) → IfOk r (λ _. now ≡ history ++ asked 0 moment event ∷ []) → OnErr r (now ≡ history)
-    → MatchResult r (λ reply. Asked limits 0 4 history now (asked 0 moment event) reply) (λ _. MayHaveAsked 0 4 history now (asked 0 moment event))
+pub stepped : (limits : Limits) (moment : ℕ) (event : Event) (old new : Core) (history now : History)
+    {E : Type 0} (r : Result Reply E)
+    → IsRunning limits old history → length history < limits.entries
+    → IfOk r (Advances old new (asked 0 moment event)) → IfOk r (λ _. now ≡ history ++ asked 0 moment event ∷ [])
+    → OnErr r (now ≡ history)
+    → MatchResult r (λ reply. Asked limits 0 4 history now (asked 0 moment event) reply)
+    (λ _. MayHaveAsked 0 4 history now (asked 0 moment event))
 stepped limits moment event old new history now (Ok reply) running room advances is same =
-    added limits moment event history now reply is (advances limits history running.stands (room_left limits history running.kept room)).1
+    added limits moment event history now reply is
+    (advances limits history running.stands (room_left limits history running.kept room)).1
 stepped limits moment event old new history now (Err e) running room advances is same =
     subst (λ (l : History). MayHaveAsked 0 4 history l (asked 0 moment event)) (sym same) (inr (grows_not 0 4 moment history))
 
-grown : (limits : Limits) (moment : ℕ) (event : Event) (old new : Core) (history : History) → IsRunning limits old history → length history < limits.entries → PutsObject event
-    → Stands limits new (history ++ asked 0 moment event ∷ []) → IsRunning limits new (history ++ asked 0 moment event ∷ [])
-grown limits moment event old new history running room object stands =
-    let entry = asked 0 moment event in
+-- one entry more
+grown : (limits : Limits) (entry : Entry) (old new : Core) (history : History) → IsRunning limits old history
+    → length history < limits.entries → PutsObject entry.event → IsOwn entry
+    → Stands limits new (history ++ entry ∷ []) → IsRunning limits new (history ++ entry ∷ [])
+grown limits entry old new history running room object own stands =
     record {
       stands = stands;
       kept = record {
         some = running.kept.some;
         bounded = running.kept.bounded;
         room = omega (arith, length-append history (entry ∷ []), room);
-        objects = All-append (λ (e : Entry). PutsObject e.event) history (entry ∷ []) running.kept.objects (All-cons (λ (e : Entry). PutsObject e.event) entry [] object (All-nil (λ (e : Entry). PutsObject e.event)));
+        objects = All-append (λ (e : Entry). PutsObject e.event) history (entry ∷ []) running.kept.objects
+            (All-cons (λ (e : Entry). PutsObject e.event) entry [] object (All-nil (λ (e : Entry). PutsObject e.event)));
       };
-      own = All-append (λ (e : Entry). e.who ≡ 0) history (entry ∷ []) running.own (All-cons (λ (e : Entry). e.who ≡ 0) entry [] refl (All-nil (λ (e : Entry). e.who ≡ 0)));
+      own = All-append IsOwn history (entry ∷ []) running.own (All-cons IsOwn entry [] own (All-nil IsOwn));
     }
 
+-- none more
+stayed : (limits : Limits) (old new : Core) (history now : History) → IsRunning limits old history → StandsOn old new
+    → now ≡ history → IsRunning limits new now
+stayed limits old new history now running same stays =
+    subst (λ (l : History). IsRunning limits new l) (sym stays)
+    (record { stands = same limits history running.stands; kept = running.kept; own = running.own })
+
 -- the service goes on, whether the step was taken or memory was wanted
-pub runs_on : (limits : Limits) (moment : ℕ) (event : Event) (old new : Core) (history now : History) {E : Type 0} (r : Result Reply E) → IsRunning limits old history → length history < limits.entries
-    → PutsObject event → IfOk r (Advances old new (asked 0 moment event)) → IfOk r (λ _. now ≡ history ++ asked 0 moment event ∷ [])
+pub runs_on : (limits : Limits) (moment : ℕ) (event : Event) (old new : Core) (history now : History)
+    {E : Type 0} (r : Result Reply E)
+    → IsRunning limits old history → length history < limits.entries
+    → PutsObject event → IfOk r (Advances old new (asked 0 moment event))
+    → IfOk r (λ _. now ≡ history ++ asked 0 moment event ∷ [])
     → OnErr r (StandsOn old new) → OnErr r (now ≡ history) → IsRunning limits new now
 runs_on limits moment event old new history now (Ok reply) running room object advances grows same stays =
     subst (λ (l : History). IsRunning limits new l) (sym grows)
-    (grown limits moment event old new history running room object (advances limits history running.stands (room_left limits history running.kept room)).0)
+    (grown limits (asked 0 moment event) old new history running room object (inl refl)
+    (advances limits history running.stands (room_left limits history running.kept room)).0)
 runs_on limits moment event old new history now (Err e) running room object advances grows same stays =
-    subst (λ (l : History). IsRunning limits new l) (sym stays)
-    (record { stands = same limits history running.stands; kept = running.kept; own = running.own })
+    stayed limits old new history now running same stays
+
+-- ---- tidying
+
+-- and behind it, too
+pub rests_on : (limits : Limits) (moment : ℕ) (old new : Core) (history now : History) {E : Type 0} (r : Result (Unit {0}) E)
+    → IsRunning limits old history → length history < limits.entries
+    → OnOk r (Rests old new moment) → OnOk r (now ≡ history ++ rest moment ∷ []) → OnErr r (StandsOn old new)
+    → OnErr r (now ≡ history) → IsRunning limits new now
+rests_on limits moment old new history now (Ok done) running room rests grows same stays =
+    subst (λ (l : History). IsRunning limits new l) (sym grows)
+    (grown limits (rest moment) old new history running room tt (inr (refl, refl))
+    (rests limits history 1 running.stands (room_left limits history running.kept room)))
+rests_on limits moment old new history now (Err e) running room rests grows same stays =
+    stayed limits old new history now running same stays
+
+-- one Quiet beside what was asked
+beside_one : (most moment : ℕ) → Beside 0 (4 + most) moment (rest moment ∷ [])
+beside_one most moment =
+    let entry = rest moment in
+    let one : count_by (λ (e : Entry). e.who == besides 0) (entry ∷ []) ≡ 1 = refl in
+    record {
+      none_asked = All-cons (λ (e : Entry). e.who ≢ asking 0) entry [] (λ same. absurd (omega (arith, same)))
+          (All-nil (λ (e : Entry). e.who ≢ asking 0));
+      quiet = All-cons (λ (e : Entry). e.who ≡ besides 0 → (e.event ≡ Quiet) × (e.moment ≡ moment)) entry [] (λ by. (refl, refl))
+          (All-nil (λ (e : Entry). e.who ≡ besides 0 → (e.event ≡ Quiet) × (e.moment ≡ moment)));
+      few = omega (arith, one);
+    }
+
+pub rests_beside : (most moment : ℕ) (history now : History) {E : Type 0} (r : Result (Unit {0}) E)
+    → OnOk r (now ≡ history ++ rest moment ∷ []) → OnErr r (now ≡ history) → GrowsBeside 0 (4 + most) moment history now
+rests_beside most moment history now (Ok done) grows stays =
+    record { more = rest moment ∷ []; grows = grows; beside = beside_one most moment }
+rests_beside most moment history now (Err e) grows stays =
+    subst (λ (l : History). GrowsBeside 0 (4 + most) moment history l) (sym stays) (grows_not 0 (4 + most) moment history)

@@ -1,5 +1,5 @@
 -- What is said of a whole input, and of two runs over one input.
-use Rattle.std.specs.Prelude.{◌≡◌, ◌≢◌, ◌⊎◌, ℕ, ◌≤◌, List, [], length, map, Option, Some, None, All}
+use Rattle.std.specs.Prelude.{◌≡◌, ◌≢◌, ◌⊎◌, ℕ, ◌<◌, ◌≤◌, List, [], length, map, Option, Some, None, All}
 use Rattle.es_outside.specs.Told.{Rose}
 use Rattle.http_wire.specs.declared.request.Request.{Request}
 use Rattle.http_wire.specs.Requests.{Spells, connection_limit}
@@ -11,7 +11,7 @@ use Rattle.es_node.specs.declared.run.Status.TheVariants.{Done, Refused, NoMemor
 use Rattle.reply_json.specs.declared.response.Response.TheVariants.{Fault}
 use Rattle.reply_json.specs.declared.fault.RestFault.TheVariants as fault
 use Rattle.es_rest.specs.Talk.{Exchange, Serves}
-use Rattle.es_rest.specs.Headline.{requests_of}
+use Rattle.es_rest.specs.Headline.{NeverFalls, requests_of}
 use Rattle.es_node.specs.Solo.{AreOwn}
 use Rattle.es_node.specs.Running.{ServedOne}
 
@@ -22,7 +22,8 @@ pub record AnswersAll (requests : List Request) (left after written now : Option
   pub one : ServedOne left after written now Done
   pub all : requests_of one.headline.served ≡ requests
 
-abbrev pub Completes : Option (List ℕ) → Option (List ℕ) → Option (List ℕ) → Option (List ℕ) → ℕ → ℕ → ℕ → ℕ → Status → Type 0
+abbrev pub Completes : Option (List ℕ) → Option (List ℕ) → Option (List ℕ) → Option (List ℕ) → ℕ → ℕ → ℕ → ℕ → Status
+    → Type 0
 Completes None after written now reads reads_after writes writes_after status = Unit {0}
 Completes (Some bytes) after written now reads reads_after writes writes_after status =
     (requests : List Request) → Spells bytes requests [] → length bytes ≤ connection_limit
@@ -38,11 +39,18 @@ moments_of served = map (λ (x : Exchange). x.moment) served
 abbrev pub NeverWants : List Exchange → Type 0
 NeverWants served = All (λ (x : Exchange). x.response ≢ Fault fault.NoMemory) served
 
--- these requests were served from an empty history with ample memory, by entries of seat 0 alone
+-- the history isn't full, so no reply was Spent
+abbrev pub HasRoom : Limits → History → Type 0
+HasRoom limits history = length history < limits.entries
+
+-- These requests were served from an empty history with ample memory and room, by entries of one seat alone, at moments that
+-- never fall.
 pub record ServesAlone (limits : Limits) (history : History) (served : List Exchange) : Type 0 where
   pub kept : IsKept limits history
+  pub room : HasRoom limits history
   pub own : AreOwn history
-  pub serves : Serves limits 0 0 [] history served
+  pub serves : Serves limits 0 [] history served
+  pub never_fall : NeverFalls 0 served
   pub ample : NeverWants served
 
 -- the run ended neither by a fault nor by want of memory

@@ -39,6 +39,7 @@ abbrev pub limits : Limits
 limits = record { pits = 500; entries = 9007199254740992 }
 
 -- One connection was served, from an empty history and by entries of its own seat alone, which were not too many.
+-- The clock's answer before was 0.
 pub record ServedOne (left after written now : Option (List ℕ)) (status : Status) : Type 0 where
   pub history : History
   pub own : AreOwn history
@@ -46,7 +47,7 @@ pub record ServedOne (left after written now : Option (List ℕ)) (status : Stat
   pub end : ConnEnd
   pub status_is : status ≡ end_status end
   pub greatest : ℕ
-  pub headline : Headline limits 0 [] history left after written now (Some 0) greatest end
+  pub headline : Headline limits 0 [] history left after written now (Some 0) 0 greatest end
 
 -- memory was wanted before anything was read or written
 pub record NoneServed (left after written now : Option (List ℕ)) (status : Status) : Type 0 where

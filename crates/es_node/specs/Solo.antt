@@ -1,6 +1,7 @@
 -- A service with one caller, as contracts see it: its limits, and the history so far.
-use Rattle.std.specs.Prelude.{◌≡◌, ◌<◌, List, [], ◌∷◌, ◌++◌, length, All}
+use Rattle.std.specs.Prelude.{◌≡◌, ◌⊎◌, ℕ, ◌<◌, List, [], ◌∷◌, ◌++◌, length, All}
 use Rattle.list_machine.specs.declared.event.Entry.{Entry}
+use Rattle.list_machine.specs.declared.event.Event.TheVariants.{Quiet}
 use Rattle.list_machine.specs.declared.event.Limits.{Limits}
 use Rattle.list_machine.specs.declared.event.Reply.{Reply}
 use Rattle.list_machine.specs.Run.{History, reply_of}
@@ -12,9 +13,16 @@ pub record Journal : Type 0 where
   pub limits : Limits
   pub history : List Entry
 
--- each entry was asked by the seat of number 0
+-- it was asked by the seat of number 0, or is a Quiet that nobody asked that seat for
+abbrev pub IsOwn : Entry → Type 0
+IsOwn entry = (entry.who ≡ 0) ⊎ ((entry.who ≡ 1) × (entry.event ≡ Quiet))
+
 abbrev pub AreOwn : History → Type 0
-AreOwn history = All (λ (entry : Entry). entry.who ≡ 0) history
+AreOwn history = All IsOwn history
+
+-- the Quiet of a tidying
+abbrev pub rest : ℕ → Entry
+rest moment = record { who = 1; moment = moment; event = Quiet }
 
 -- whatever history the core stood for, it now stands for that and the entry, and this is the machine's reply
 abbrev pub Advances : Core → Core → Entry → Reply → Type 0

@@ -6,7 +6,11 @@ ghost use Rattle.std.specs.Prelude.{◌≡◌, ◌↔◌, false};
 ghost use Rattle.es_node.specs.Running.{is_replay};
 
 mod adapter;
+#[cfg(test)]
+mod kept;
 mod laws;
+#[cfg(test)]
+mod limited;
 mod run;
 #[cfg(test)]
 mod searched;

@@ -98,7 +98,7 @@ POST /%FF/_search?x=1 {"x":1}
 POST /_search?scroll=1m
 400 illegal_argument_exception: bad parameter [scroll]
 POST /docs/_search?x=1 {"pit":{"keep_alive":"1m"},"x":1}
-501 not_built_exception: not built
+400 illegal_argument_exception: bad parameter [x]
 POST /docs/_search {"search_after":[1]}
 400 illegal_argument_exception: search_after does not fit the sort
 POST /docs/_search {"sort":["n"]}

@@ -24,6 +24,15 @@ fn phrase(status: &str) -> &'static str {
     }
 }
 
+// The header of a moment, where the line begins with one (`@5 GET /`), and the rest of the line.
+fn moment_of<'a>(alloc: Global, line: &'a str) -> Result<(String, &'a str), Fail> {
+    let Some(rest) = line.strip_prefix("@") else {
+        return Ok((String::new(alloc), line));
+    };
+    let (moment, rest) = rest.split_once(' ').ok_or("a moment")?;
+    Ok((format!(in alloc; "x-moment: {moment}\r\n")?, rest))
+}
+
 // A method, a target and perhaps a body, which goes on in `more`.
 pub(crate) fn push_request(
     alloc: Global,
@@ -31,10 +40,13 @@ pub(crate) fn push_request(
     line: &str,
     more: &str,
 ) -> Result<(), Fail> {
+    let (moment, line) = moment_of(alloc, line)?;
     let (method, rest) = line.split_once(' ').ok_or("a method")?;
     let (target, body) = rest.split_once(' ').unwrap_or((rest, ""));
     let length = body.len().saturating_add(more.len());
-    let head = format!(in alloc; "{method} {target} HTTP/1.1\r\ncontent-length: {length}\r\n\r\n")?;
+    let head = format!(in alloc;
+        "{method} {target} HTTP/1.1\r\n{moment}content-length: {length}\r\n\r\n"
+    )?;
     out.extend_from_slice(head.as_bytes())?;
     out.extend_from_slice(body.as_bytes())?;
     out.extend_from_slice(more.as_bytes())?;

@@ -258,7 +258,7 @@ GET /docs
 GET /
 501 not_built_exception: not built
 POST /_search {"pit":{"id":"UAAAAAAAAAAB"},"size":1}
-501 not_built_exception: not built
+404 search_context_missing_exception: no context [UAAAAAAAAAAB]
 PUT /docs/_doc/a {}
 201 {"_index":"docs","_id":"a","result":"created","_seq_no":0}
 "#;

@@ -1,10 +1,10 @@
-ghost use Rattle.std.specs.Prelude.{◌≡◌, ◌+◌, ◌<◌, ◌≤◌, ◌^◌, ◌++◌, [], ◌∷◌, IfOk, OnErr};
+ghost use Rattle.std.specs.Prelude.{◌≡◌, ◌+◌, ◌<◌, ◌≤◌, ◌^◌, ◌++◌, [], ◌∷◌, IfOk, OnOk, OnErr};
 ghost use Rattle.list_machine.specs.Run.{IsBounded, PutsObject};
 ghost use Rattle.list_machine.specs.Serving.{IsKept};
-ghost use Rattle.es_core.specs.Stands.{Replies, StandsOn};
-ghost use Rattle.es_node.specs.Solo.{Advances, AreOwn};
+ghost use Rattle.es_core.specs.Stands.{Replies, Rests, StandsOn};
+ghost use Rattle.es_node.specs.Solo.{Advances, AreOwn, rest};
 
-use es_core::{Brought, Core, Turned};
+use es_core::{Brought, Chore, Core, Turned};
 use es_types::{Moment, NoMemory};
 use list_machine::{Entry, Event, Limits, Reply, Service};
 use std::alloc::Global;
@@ -48,7 +48,7 @@ impl Solo {
         })
     }
 
-    /// Ends the service. All of its history was asked by its own seat, and is not too long.
+    /// Ends the service. All of its history is of its own seat, and is not too long.
     pub fn finish(self)
         ensures own { AreOwn self.history }
         ensures kept { IsKept self.limits self.history }
@@ -88,6 +88,26 @@ fn advance(core: &mut Core, journal: &mut Vec<Entry>, entry: Entry) -> Result<Re
     }
 }
 
+// Lets go what is over, and writes down the Quiet of it. Nothing changes where memory is wanted.
+fn reap(core: &mut Core, journal: &mut Vec<Entry>, moment: Moment) -> Result<(), NoMemory>
+    ensures rests { OnOk result (Rests core.old core.new moment) }
+    ensures journal { OnOk result (journal.new.items ≡ journal.old.items ++ rest moment ∷ []) }
+    ensures core_kept { OnErr result (StandsOn core.old core.new) }
+    ensures journal_kept { OnErr result (journal.new.items ≡ journal.old.items) }
+{
+    journal.reserve(1)?;
+    let _ = core.quiet(Chore::Reap, moment)?;
+    let entry = Entry {
+        who: 1,
+        moment,
+        event: Event::Quiet,
+    };
+    match journal.push(entry) {
+        Ok(()) => Ok(()),
+        Err(_) => unreachable!(),
+    }
+}
+
 impl Service for Solo {
     ghost front = { λ s. s.history };
 
@@ -112,8 +132,10 @@ impl Service for Solo {
         Ok(false)
     }
 
-    fn tidy(&mut self, _moment: Moment) -> Result<(), NoMemory> {
-        let _ = &self.limits;
-        Ok(())
+    fn tidy(&mut self, moment: Moment) -> Result<(), NoMemory> {
+        if self.journal.len() as u64 >= self.limits.entries {
+            return Ok(());
+        }
+        reap(&mut self.core, &mut self.journal, moment)
     }
 }

@@ -115,7 +115,9 @@ POST /zz/_pit?keep_alive=1m
 POST /Z/_pit?keep_alive=1m
 400 illegal_argument_exception: limit [index]
 POST /docs/_pit?keep_alive=1d
-501 not_built_exception: not built
+200 {"id":"UAAAAAAAAAAB"}
+POST /docs/_pit?keep_alive=25h
+400 illegal_argument_exception: limit [keep_alive]
 "#;
 
 #[test]

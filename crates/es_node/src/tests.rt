@@ -154,7 +154,7 @@ fn ends(
 fn statuses(rt: HostRuntime) -> Result<(), Fail> {
     let alloc = rt.alloc();
     ends(&rt, alloc, b"", &NO_FAULTS, (Status::Done, 0), b"")?;
-    let odd = b"GET / HTTP/1.1\r\nx-moment: 1\r\n\r\n";
+    let odd = b"GET / HTTP/1.1\r\nx-moment: 1\r\nx-moment: 1\r\n\r\n";
     ends(
         &rt,
         alloc,

@@ -6,7 +6,8 @@ use Rattle.std.specs.Prelude.{IsErrAnd, if◌then◌else◌}
 use Rattle.es_types.specs.Name.{is_doc_id, is_index_name}
 use Rattle.es_types.specs.declared.limit.LimitName.TheVariants as limit
 use Rattle.es_rest.specs.Items.{named}
-use Rattle.es_rest.specs.Route.{Answers, and_then}
+use Rattle.es_rest.specs.declared.ask.Ask.{Ask}
+use Rattle.es_rest.specs.Route.{Answers, and_then, asked_when, behind_moment}
 
 -- a part that is refused refuses the whole
 pub answers_err : {A B : Type 0} (asked : Result A RestFault) (next : A → Result B RestFault) (f : RestFault) → Answers (Err f) asked → Answers (Err f) (and_then asked next)
@@ -14,6 +15,7 @@ answers_err {A} {B} asked next fault.NotBuilt h = ap (λ (r : Result A RestFault
 answers_err {A} {B} asked next (fault.BadParam name) h = ap (λ (r : Result A RestFault). and_then r next) h
 answers_err {A} {B} asked next fault.BadBody h = ap (λ (r : Result A RestFault). and_then r next) h
 answers_err {A} {B} asked next (fault.Limit name) h = ap (λ (r : Result A RestFault). and_then r next) h
+answers_err {A} {B} asked next fault.BadId h = ap (λ (r : Result A RestFault). and_then r next) h
 answers_err {A} {B} asked next fault.Spent h = ap (λ (r : Result A RestFault). and_then r next) h
 answers_err {A} {B} asked next (fault.NoIndex name) h = ap (λ (r : Result A RestFault). and_then r next) h
 answers_err {A} {B} asked next (fault.Exists name) h = ap (λ (r : Result A RestFault). and_then r next) h
@@ -33,6 +35,7 @@ answers_is (Err fault.NotBuilt) asked is = sym is
 answers_is (Err (fault.BadParam name)) asked is = sym is
 answers_is (Err fault.BadBody) asked is = sym is
 answers_is (Err (fault.Limit name)) asked is = sym is
+answers_is (Err fault.BadId) asked is = sym is
 answers_is (Err fault.Spent) asked is = sym is
 answers_is (Err (fault.NoIndex name)) asked is = sym is
 answers_is (Err (fault.Exists name)) asked is = sym is
@@ -74,3 +77,32 @@ named_next {A} {B} index id x y false b = refl
 pub named_failed : {A B : Type 0} (index id : List ℕ) (x : A) (y : B) (f : RestFault) (r : Result B RestFault) → IsErrAnd r (λ e. e ≡ f) → Answers (Err f) (named index id x) → Answers r (named index id y)
 named_failed {A} {B} index id x y f r e h =
     answers_same (and_then (named index id x) (λ z. Ok y)) (named index id y) r (named_next index id x y (is_index_name index) (is_doc_id id)) (answers_failed (named index id x) (λ z. Ok y) f r e h)
+
+-- what comes behind a moment follows from the answer
+answers_behind : (r asked : Result Ask RestFault) → Answers r asked → Answers (behind_moment r) (behind_moment asked)
+answers_behind (Ok value) asked h = ap behind_moment h
+answers_behind (Err fault.NotBuilt) asked h = ap behind_moment h
+answers_behind (Err (fault.BadParam name)) asked h = ap behind_moment h
+answers_behind (Err fault.BadBody) asked h = ap behind_moment h
+answers_behind (Err (fault.Limit name)) asked h = ap behind_moment h
+answers_behind (Err fault.BadId) asked h = ap behind_moment h
+answers_behind (Err fault.Spent) asked h = ap behind_moment h
+answers_behind (Err (fault.NoIndex name)) asked h = ap behind_moment h
+answers_behind (Err (fault.Exists name)) asked h = ap behind_moment h
+answers_behind (Err (fault.BadDoc doc)) asked h = ap behind_moment h
+answers_behind (Err fault.BadQuery) asked h = ap behind_moment h
+answers_behind (Err fault.BadSort) asked h = ap behind_moment h
+answers_behind (Err fault.BadAfter) asked h = ap behind_moment h
+answers_behind (Err (fault.NoContext id)) asked h = ap behind_moment h
+answers_behind (Err (fault.TooMany n)) asked h = ap behind_moment h
+answers_behind (Err fault.ShardFull) asked h = ap behind_moment h
+answers_behind (Err fault.NoMemory) asked h = tt
+
+-- a moment that isn't readable, and none or one that is
+pub answers_unreadable : (r result asked : Result Ask RestFault) (unreadable : Bool) → unreadable ≡ true → result ≡ behind_moment r → Answers r asked → Answers result (asked_when unreadable asked)
+answers_unreadable r result asked unreadable is made h =
+    answers_same (behind_moment asked) (asked_when unreadable asked) result (ap (λ b. asked_when b asked) is)
+    (subst (λ (x : Result Ask RestFault). Answers x (behind_moment asked)) (sym made) (answers_behind r asked h))
+
+pub answers_readable : (r asked : Result Ask RestFault) (unreadable : Bool) → unreadable ≡ false → Answers r asked → Answers r (asked_when unreadable asked)
+answers_readable r asked unreadable is h = answers_same asked (asked_when unreadable asked) r (ap (λ b. asked_when b asked) is) h

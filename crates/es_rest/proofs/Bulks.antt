@@ -86,10 +86,10 @@ walk_fails index body at fault there w =
 
 -- such a fault is what is told
 pub fault_told : {A : Type 0} (fault : BodyFault) (asked : Result A RestFault) → asked ≡ Err (body_fault fault) → Answers (Err (body_fault fault)) asked
-fault_told bad.NotBuilt asked is = is
 fault_told bad.NotJson asked is = is
 fault_told bad.Shape asked is = is
 fault_told (bad.Limit name) asked is = is
+fault_told bad.BadId asked is = is
 
 -- these items stand from a place on
 pub record Ahead (index : Option (List ℕ)) (body : List ℕ) (at : ℕ) (left : List BulkItem) : Type 0 where

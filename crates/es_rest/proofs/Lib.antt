@@ -6,6 +6,7 @@ pub mod BulkTalks
 pub mod Parts
 pub mod Talks
 pub mod Turns
+pub mod Clocks
 pub mod Progress
 pub mod Whole
 pub mod Objects

@@ -14,17 +14,12 @@ use Rattle.list_machine.specs.Run.{History}
 use Rattle.list_machine.specs.Pages.{Enumerates}
 use Rattle.es_rest.specs.declared.connection.ConnEnd.{ConnEnd}
 use Rattle.es_rest.specs.declared.connection.ConnEnd.TheVariants as end
-use Rattle.es_rest.specs.declared.connection.Session.{Session}
 use Rattle.reply_json.specs.Replies.{text}
-use Rattle.es_rest.specs.Talk.{Exchange, Served, Serves, newest_after}
-use Rattle.es_rest.specs.Headline.{requests_of, texts_of, EndsWith, Cuts, TookAll, AtReadFault, ReadsFrom, last_words, IsCut, WroteWords, WritesTo, NeverFalls, AtLast, AreMoments, Headline}
+use Rattle.es_rest.specs.Talk.{Exchange, Served, Serves}
+use Rattle.es_rest.specs.Headline.{requests_of, texts_of, EndsWith, Cuts, TookAll, AtReadFault, ReadsFrom, last_words, IsCut, WroteWords, WritesTo, NeverFalls, FollowClock, AreMoments, Headline, latest}
+use Rattle.es_rest.proofs.Clocks.{ClockSoFar, clock_more, clock_starts, requests_more, told_none}
 use Rattle.es_rest.proofs.Turns.{exchanged_as, wrote_none}
-use Rattle.es_rest.specs.Turns.{Aims, Closed, Exchanged, LastGoesOn}
-
--- the newest point in time that these responses told of
-abbrev pub newest_of : ℕ → List Exchange → ℕ
-newest_of newest [] = newest
-newest_of newest (x ∷ served) = newest_of (newest_after newest x.response) served
+use Rattle.es_rest.specs.Turns.{Aims, ClockAnswers, Closed, Exchanged, LastGoesOn}
 
 -- the bytes that were taken are these requests and then what is held, whatever comes behind them
 pub record ReadOn (bytes : List ℕ) (left : Option (List ℕ)) (held : Held) (requests : List Request) : Type 0 where
@@ -43,25 +38,21 @@ abbrev pub WroteSoFar : Option (List ℕ) → Option (List ℕ) → List Exchang
 WroteSoFar None after served = Unit {0}
 WroteSoFar (Some written) after served = after ≡ Some (written ++ texts_of served)
 
-abbrev pub LastSoFar : Option ℕ → Option ℕ → ℕ → Type 0
-LastSoFar None after moment = Unit {0}
-LastSoFar (Some last) after moment = (after ≡ Some last) × (moment ≤ last)
-
 -- all but what was written
-pub record Moved (limits : Limits) (seat : ℕ) (old new : History) (left after : Option (List ℕ)) (last now : Option ℕ) (greatest : ℕ) (session : Session) (held : Held) (served : List Exchange) : Type 0 where
-  pub serves : Serves limits seat 0 old new served
-  pub newest : session.newest ≡ newest_of 0 served
+pub record Moved (limits : Limits) (seat : ℕ) (old new : History) (left after : Option (List ℕ)) (last now : Option ℕ) (begun greatest : ℕ) (time : ℕ) (held : Held) (served : List Exchange) : Type 0 where
+  pub serves : Serves limits seat old new served
   pub read : ReadSoFar left after held (requests_of served)
   pub never_fall : NeverFalls 0 served
-  pub below : All (λ (x : Exchange). x.moment ≤ session.moment) served
-  pub bounded : session.moment ≤ greatest
-  pub told : AtLast last served
-  pub goes_on : LastSoFar last now session.moment
+  pub below : All (λ (x : Exchange). x.moment ≤ time) served
+  pub greatest_is : greatest ≡ max begun time
+  pub latest_is : latest 0 served ≡ time
+  pub told : FollowClock last served
+  pub goes_on : ClockSoFar last now (requests_of served) time
 
 -- so far
-pub record Progress (limits : Limits) (seat : ℕ) (old new : History) (left after written now : Option (List ℕ)) (last told : Option ℕ) (greatest : ℕ) (session : Session) (held : Held) : Type 0 where
+pub record Progress (limits : Limits) (seat : ℕ) (old new : History) (left after written now : Option (List ℕ)) (last told : Option ℕ) (begun greatest : ℕ) (time : ℕ) (held : Held) : Type 0 where
   pub served : List Exchange
-  pub moved : Moved limits seat old new left after last told greatest session held served
+  pub moved : Moved limits seat old new left after last told begun greatest time held served
   pub wrote : WroteSoFar written now served
 
 -- ---- one request more
@@ -70,32 +61,20 @@ spells_more : (stream : List ℕ) (requests : List Request) (rest more : List �
 spells_more stream [] rest more request s b = (more, subst (λ (l : List ℕ). Begins l request more) (sym s) b, refl)
 spells_more stream (r ∷ requests) rest more request s b = (s.0, s.1, spells_more s.0 requests rest more request s.2 b)
 
-serves_more : (limits : Limits) (seat newest : ℕ) (old mid new : History) (served : List Exchange) (x : Exchange)
-    → Serves limits seat newest old mid served → Served limits seat (newest_of newest served) mid new x → Serves limits seat newest old new (served ++ x ∷ [])
-serves_more limits seat newest old mid new [] x s h = (new, subst (λ (l : History). Served limits seat newest l new x) s h, refl)
-serves_more limits seat newest old mid new (y ∷ served) x s h = (s.0, s.1, serves_more limits seat (newest_after newest y.response) s.0 mid new served x s.2 h)
-
-newest_more : (newest : ℕ) (served : List Exchange) (x : Exchange) → newest_of newest (served ++ x ∷ []) ≡ newest_after (newest_of newest served) x.response
-newest_more newest [] x = refl
-newest_more newest (y ∷ served) x = newest_more (newest_after newest y.response) served x
+serves_more : (limits : Limits) (seat : ℕ) (old mid new : History) (served : List Exchange) (x : Exchange)
+    → Serves limits seat old mid served → Served limits seat mid new x → Serves limits seat old new (served ++ x ∷ [])
+serves_more limits seat old mid new [] x s h = (new, subst (λ (l : History). Served limits seat l new x) s h, refl)
+serves_more limits seat old mid new (y ∷ served) x s h = (s.0, s.1, serves_more limits seat s.0 mid new served x s.2 h)
 
 falls_more : (from : ℕ) (served : List Exchange) (x : Exchange) → NeverFalls from served → All (λ (y : Exchange). y.moment ≤ x.moment) served → from ≤ x.moment → NeverFalls from (served ++ x ∷ [])
 falls_more from [] x n below h = (h, tt)
 falls_more from (y ∷ served) x n below h =
     (n.0, falls_more y.moment served x n.1 (All-tail (λ (z : Exchange). z.moment ≤ x.moment) y served below) (All-head (λ (z : Exchange). z.moment ≤ x.moment) y served below))
 
-last_more : (last now after : Option ℕ) (old new : ℕ) (served : List Exchange) (x : Exchange) → x.moment ≡ new → AtLast last served → LastSoFar last now old → LastGoesOn now after old new
-    → AtLast last (served ++ x ∷ []) × LastSoFar last after new
-last_more None now after old new served x is at so goes = (tt, tt)
-last_more (Some last) now after old new served x is at so goes =
-    let P : Option ℕ → Type 0 = λ o. LastGoesOn o after old new in
-    let g : (after ≡ Some last) × (new ≡ max old last) = subst P so.0 goes in
-    let same : new ≡ last = omega (arith, g.1, so.1) in
-    (All-append (λ (y : Exchange). y.moment ≡ last) served (x ∷ []) at (All-cons (λ (y : Exchange). y.moment ≡ last) x [] (is ∙ same) (All-nil (λ (y : Exchange). y.moment ≡ last))), (g.0, omega (arith, same)))
-
-requests_more : (served : List Exchange) (x : Exchange) → requests_of (served ++ x ∷ []) ≡ requests_of served ++ x.request ∷ []
-requests_more [] x = refl
-requests_more (y ∷ served) x = ap (λ (l : List Request). y.request ∷ l) (requests_more served x)
+-- the moment of the last one is that of one more
+latest_more : (from : ℕ) (served : List Exchange) (x : Exchange) → latest from (served ++ x ∷ []) ≡ x.moment
+latest_more from [] x = refl
+latest_more from (y ∷ served) x = latest_more y.moment served x
 
 texts_more : (served : List Exchange) (x : Exchange) → texts_of (served ++ x ∷ []) ≡ texts_of served ++ text x.response x.request.last
 texts_more [] x = append-nil (text x.response x.request.last)
@@ -121,24 +100,24 @@ read_more (Some bytes) now after old new requests request so next =
     }
 
 -- what a request and its response make of all but the bytes that were written
-moved_more : (limits : Limits) (seat : ℕ) (first front after : History) (left now then : Option (List ℕ)) (last told tells : Option ℕ) (greatest great : ℕ) (old new : Session) (held holds : Held) (served : List Exchange) (x : Exchange)
-    → Moved limits seat first front left now last told greatest old held served
+moved_more : (limits : Limits) (seat : ℕ) (first front after : History) (left now then : Option (List ℕ)) (last told tells : Option ℕ) (begun greatest great : ℕ) (old new : ℕ) (held holds : Held) (served : List Exchange) (x : Exchange)
+    → Moved limits seat first front left now last told begun greatest old held served
     → ReadSoFar left then holds (requests_of served ++ x.request ∷ [])
-    → Served limits seat old.newest front after x → new.newest ≡ newest_after old.newest x.response → x.moment ≡ new.moment
-    → old.moment ≤ new.moment → new.moment ≤ max old.moment great → greatest ≤ great → LastGoesOn told tells old.moment new.moment
-    → Moved limits seat first after left then last tells great new holds (served ++ x ∷ [])
-moved_more limits seat first front after left now then last told tells greatest great old new held holds served x m read serve newest moment later bounded greater goes =
-    let lasts = last_more last told tells old.moment new.moment served x moment m.told m.goes_on goes in
+    → Served limits seat front after x → x.moment ≡ new
+    → old ≤ new → ClockAnswers old new greatest great → LastGoesOn told tells x.request old new
+    → Moved limits seat first after left then last tells begun great new holds (served ++ x ∷ [])
+moved_more limits seat first front after left now then last told tells begun greatest great old new held holds served x m read serve moment later asked goes =
+    let lasts = clock_more last told tells old new served x moment m.told m.goes_on goes in
     record {
-      serves = serves_more limits seat 0 first front after served x m.serves (subst (λ (n : ℕ). Served limits seat n front after x) m.newest serve);
-      newest = newest ∙ (ap (λ (n : ℕ). newest_after n x.response) m.newest ∙ sym (newest_more 0 served x));
+      serves = serves_more limits seat first front after served x m.serves serve;
       read = subst (λ (rs : List Request). ReadSoFar left then holds rs) (sym (requests_more served x)) read;
       never_fall = falls_more 0 served x m.never_fall
-          (All-weaker (λ (y : Exchange). y.moment ≤ old.moment) (λ (y : Exchange). y.moment ≤ x.moment) (λ y h. omega (arith, h, later, moment)) served m.below) (omega arith);
-      below = All-append (λ (y : Exchange). y.moment ≤ new.moment) served (x ∷ [])
-          (All-weaker (λ (y : Exchange). y.moment ≤ old.moment) (λ (y : Exchange). y.moment ≤ new.moment) (λ y h. omega (arith, h, later)) served m.below)
-          (All-cons (λ (y : Exchange). y.moment ≤ new.moment) x [] (omega (arith, moment)) (All-nil (λ (y : Exchange). y.moment ≤ new.moment)));
-      bounded = omega (arith, bounded, m.bounded, greater);
+          (All-weaker (λ (y : Exchange). y.moment ≤ old) (λ (y : Exchange). y.moment ≤ x.moment) (λ y h. omega (arith, h, later, moment)) served m.below) (omega arith);
+      below = All-append (λ (y : Exchange). y.moment ≤ new) served (x ∷ [])
+          (All-weaker (λ (y : Exchange). y.moment ≤ old) (λ (y : Exchange). y.moment ≤ new) (λ y h. omega (arith, h, later)) served m.below)
+          (All-cons (λ (y : Exchange). y.moment ≤ new) x [] (omega (arith, moment)) (All-nil (λ (y : Exchange). y.moment ≤ new)));
+      greatest_is = omega (arith, asked.1, asked.2, m.greatest_is);
+      latest_is = latest_more 0 served x ∙ moment;
       told = lasts.0;
       goes_on = lasts.1;
     }
@@ -273,12 +252,13 @@ wrote_on (Some written) now after served x so wrote =
     let P : Option (List ℕ) → Type 0 = λ o. Wrote o after words in
     subst P so wrote ∙ ap Some (append_assoc written (texts_of served) words ∙ ap (λ (l : List ℕ). written ++ l) (sym (texts_more served x)))
 
-moments_of : (limits : Limits) (seat : ℕ) (first front : History) (left now : Option (List ℕ)) (last told : Option ℕ) (greatest : ℕ) (session : Session) (held : Held) (served : List Exchange)
-    → Moved limits seat first front left now last told greatest session held served → AreMoments last greatest served
-moments_of limits seat first front left now last told greatest session held served m =
+moments_of : (limits : Limits) (seat : ℕ) (first front : History) (left now : Option (List ℕ)) (last told : Option ℕ) (begun greatest : ℕ) (time : ℕ) (held : Held) (served : List Exchange)
+    → Moved limits seat first front left now last told begun greatest time held served → AreMoments last begun greatest served
+moments_of limits seat first front left now last told begun greatest time held served m =
     record {
       never_fall = m.never_fall;
-      bounded = All-weaker (λ (x : Exchange). x.moment ≤ session.moment) (λ (x : Exchange). x.moment ≤ greatest) (λ x h. omega (arith, h, m.bounded)) served m.below;
+      bounded = All-weaker (λ (x : Exchange). x.moment ≤ time) (λ (x : Exchange). x.moment ≤ greatest) (λ x h. omega (arith, h, m.greatest_is)) served m.below;
+      greatest_is = m.greatest_is ∙ ap (max begun) (sym m.latest_is);
       told = m.told;
     }
 
@@ -294,98 +274,90 @@ read_none (Some bytes) held empty =
       room = omega (arith, ap (λ (h : Held). h.room) empty);
     }
 
-told_none : (last : Option ℕ) → AtLast last []
-told_none None = tt
-told_none (Some last) = All-nil (λ (x : Exchange). x.moment ≡ last)
-
-last_none : (last : Option ℕ) (moment : ℕ) → moment ≡ 0 → LastSoFar last last moment
-last_none None moment zero = tt
-last_none (Some last) moment zero = (refl, omega (arith, zero))
-
 wrote_nothing : (written : Option (List ℕ)) → WroteSoFar written written []
 wrote_nothing None = tt
 wrote_nothing (Some written) = ap Some (sym (append-nil written))
 
 -- the same as moved_more, from what the exchange says
-moved_by : (limits : Limits) (seat : ℕ) (first front after : History) (left now then was is : Option (List ℕ)) (last told tells : Option ℕ) (greatest great : ℕ) (old new : Session) (held holds : Held) (request : Request) {E : Type 0} (result : Result (Unit {0}) E) (served : List Exchange)
-    → Moved limits seat first front left now last told greatest old held served
-    → NextOf held holds now then (Ok (Some request)) → (ex : Exchanged limits seat old new front after request was is result)
-    → old.moment ≤ new.moment → new.moment ≤ max old.moment great → greatest ≤ great → LastGoesOn told tells old.moment new.moment
-    → Moved limits seat first after left then last tells great new holds (served ++ ex.x ∷ [])
-moved_by limits seat first front after left now then was is last told tells greatest great old new held holds request result served m next ex later bounded greater goes =
-    moved_more limits seat first front after left now then last told tells greatest great old new held holds served ex.x m
+moved_by : (limits : Limits) (seat : ℕ) (first front after : History) (left now then was is : Option (List ℕ)) (last told tells : Option ℕ) (begun greatest great : ℕ) (old new : ℕ) (held holds : Held) (request : Request) {E : Type 0} (result : Result (Unit {0}) E) (served : List Exchange)
+    → Moved limits seat first front left now last told begun greatest old held served
+    → NextOf held holds now then (Ok (Some request)) → (ex : Exchanged limits seat new front after request was is result)
+    → old ≤ new → ClockAnswers old new greatest great → LastGoesOn told tells request old new
+    → Moved limits seat first after left then last tells begun great new holds (served ++ ex.x ∷ [])
+moved_by limits seat first front after left now then was is last told tells begun greatest great old new held holds request result served m next ex later asked goes =
+    moved_more limits seat first front after left now then last told tells begun greatest great old new held holds served ex.x m
     (subst (λ (r : Request). ReadSoFar left then holds (requests_of served ++ r ∷ [])) (sym ex.request_is) (read_more left now then held holds (requests_of served) request m.read next))
-    ex.served ex.newest_is ex.moment_is later bounded greater goes
+    ex.served ex.moment_is later asked (subst (λ (r : Request). LastGoesOn told tells r old new) (sym ex.request_is) goes)
 
 -- ---- the clauses of the call
 
-pub starts : (limits : Limits) (seat : ℕ) (first : History) (left written : Option (List ℕ)) (last : Option ℕ) (greatest : ℕ) (session : Session) (held : Held)
-    → session.newest ≡ 0 → session.moment ≡ 0 → held ≡ record { bytes = []; room = connection_limit }
-    → Progress limits seat first first left left written written last last greatest session held
-starts limits seat first left written last greatest session held newest moment empty =
+pub starts : (limits : Limits) (seat : ℕ) (first : History) (left written : Option (List ℕ)) (last : Option ℕ) (greatest : ℕ) (time : ℕ) (held : Held)
+    → time ≡ 0 → held ≡ record { bytes = []; room = connection_limit }
+    → Progress limits seat first first left left written written last last greatest greatest time held
+starts limits seat first left written last greatest time held none empty =
     record {
       served = [];
       moved = record {
         serves = refl;
-        newest = newest;
         read = read_none left held empty;
         never_fall = tt;
-        below = All-nil (λ (x : Exchange). x.moment ≤ session.moment);
-        bounded = omega (arith, moment);
+        below = All-nil (λ (x : Exchange). x.moment ≤ time);
+        greatest_is = omega (arith, none);
+        latest_is = sym none;
         told = told_none last;
-        goes_on = last_none last session.moment moment;
+        goes_on = clock_starts last time none;
       };
       wrote = wrote_nothing written;
     }
 
 -- one request more was read, and its response written
-pub goes_on : {limits other : Limits} {seat others : ℕ} {first front after : History} {left now written before was is : Option (List ℕ)} {last told : Option ℕ} {greatest : ℕ} {old new : Session} {held : Held} {request : Request} {E : Type 0} {done : Unit {0}}
+pub goes_on : {limits other : Limits} {seat others : ℕ} {first front after : History} {left now written before was is : Option (List ℕ)} {last told : Option ℕ} {begun greatest : ℕ} {old new : ℕ} {held : Held} {request : Request} {E : Type 0} {done : Unit {0}}
     (mid then : Option (List ℕ)) (tells : Option ℕ) (great : ℕ) (holds : Held)
-    → Progress limits seat first front left now written before last told greatest old held
+    → Progress limits seat first front left now written before last told begun greatest old held
     → was ≡ before → NextOf held holds now mid (Ok (Some request)) → then ≡ mid → other ≡ limits → others ≡ seat
-    → Exchanged other others old new front after request was is {E = E} (Ok done)
-    → old.moment ≤ new.moment → new.moment ≤ max old.moment great → greatest ≤ great → LastGoesOn told tells old.moment new.moment
-    → Progress limits seat first after left then written is last tells great new holds
-goes_on {limits} {other} {seat} {others} {first} {front} {after} {left} {now} {written} {before} {was} {is} {last} {told} {greatest} {old} {new} {held} {request} {E} {done} mid then tells great holds p same next rest l s exchanged later bounded greater goes =
-    let ex : Exchanged limits seat old new front after request was is {E = E} (Ok done) = exchanged_as l s old new front after request was is (Ok done) exchanged in
+    → Exchanged other others new front after request was is {E = E} (Ok done)
+    → old ≤ new → ClockAnswers old new greatest great → LastGoesOn told tells request old new
+    → Progress limits seat first after left then written is last tells begun great new holds
+goes_on {limits} {other} {seat} {others} {first} {front} {after} {left} {now} {written} {before} {was} {is} {last} {told} {begun} {greatest} {old} {new} {held} {request} {E} {done} mid then tells great holds p same next rest l s exchanged later asked goes =
+    let ex : Exchanged limits seat new front after request was is {E = E} (Ok done) = exchanged_as l s new front after request was is (Ok done) exchanged in
     let read : NextOf held holds now then (Ok (Some request)) = subst (λ (o : Option (List ℕ)). NextOf held holds now o (Ok (Some request))) (sym rest) next in
     let wrote : WroteSoFar written was p.served = subst (λ (o : Option (List ℕ)). WroteSoFar written o p.served) (sym same) p.wrote in
     record {
       served = p.served ++ ex.x ∷ [];
-      moved = moved_by limits seat first front after left now then was is last told tells greatest great old new held holds request (Ok done) p.served p.moved read ex later bounded greater goes;
+      moved = moved_by limits seat first front after left now then was is last told tells begun greatest great old new held holds request (Ok done) p.served p.moved read ex later asked goes;
       wrote = wrote_on written was is p.served ex.x wrote (subst (λ (r : Request). Wrote was is (text ex.x.response r.last)) (sym ex.request_is) ex.wrote);
     }
 
 -- one request more was read, and the write of its response failed
-pub failed : {limits other : Limits} {seat others : ℕ} {first front after : History} {left now written before was is : Option (List ℕ)} {last told : Option ℕ} {greatest : ℕ} {old new : Session} {held : Held} {request : Request} {E : Type 0} {e : E}
+pub failed : {limits other : Limits} {seat others : ℕ} {first front after : History} {left now written before was is : Option (List ℕ)} {last told : Option ℕ} {begun greatest : ℕ} {old new : ℕ} {held : Held} {request : Request} {E : Type 0} {e : E}
     (mid then : Option (List ℕ)) (tells : Option ℕ) (great : ℕ) (holds : Held)
-    → Progress limits seat first front left now written before last told greatest old held
+    → Progress limits seat first front left now written before last told begun greatest old held
     → was ≡ before → NextOf held holds now mid (Ok (Some request)) → then ≡ mid → other ≡ limits → others ≡ seat
-    → Exchanged other others old new front after request was is (Err e)
-    → old.moment ≤ new.moment → new.moment ≤ max old.moment great → greatest ≤ great → LastGoesOn told tells old.moment new.moment
+    → Exchanged other others new front after request was is (Err e)
+    → old ≤ new → ClockAnswers old new greatest great → LastGoesOn told tells request old new
     → Enumerates limits after
-    → Headline limits seat first after left then written is last great end.WriteFault
-failed {limits} {other} {seat} {others} {first} {front} {after} {left} {now} {written} {before} {was} {is} {last} {told} {greatest} {old} {new} {held} {request} {E} {e} mid then tells great holds p same next rest l s exchanged later bounded greater goes law =
-    let ex : Exchanged limits seat old new front after request was is (Err e) = exchanged_as l s old new front after request was is (Err e) exchanged in
+    → Headline limits seat first after left then written is last begun great end.WriteFault
+failed {limits} {other} {seat} {others} {first} {front} {after} {left} {now} {written} {before} {was} {is} {last} {told} {begun} {greatest} {old} {new} {held} {request} {E} {e} mid then tells great holds p same next rest l s exchanged later asked goes law =
+    let ex : Exchanged limits seat new front after request was is (Err e) = exchanged_as l s new front after request was is (Err e) exchanged in
     let read : NextOf held holds now then (Ok (Some request)) = subst (λ (o : Option (List ℕ)). NextOf held holds now o (Ok (Some request))) (sym rest) next in
     let wrote : WroteSoFar written was p.served = subst (λ (o : Option (List ℕ)). WroteSoFar written o p.served) (sym same) p.wrote in
-    let m = moved_by limits seat first front after left now then was is last told tells greatest great old new held holds request (Err e) p.served p.moved read ex later bounded greater goes in
+    let m = moved_by limits seat first front after left now then was is last told tells begun greatest great old new held holds request (Err e) p.served p.moved read ex later asked goes in
     record {
       served = p.served ++ ex.x ∷ [];
       serves = m.serves;
       enumerates = law;
       reads = reads_fault left then then holds (requests_of (p.served ++ ex.x ∷ [])) m.read;
       writes = writes_cut left then written was is p.served ex.x wrote (subst (λ (r : Request). WroteSome was is (text ex.x.response r.last)) (sym ex.request_is) ex.wrote);
-      moments = moments_of limits seat first after left then last tells great new holds (p.served ++ ex.x ∷ []) m;
+      moments = moments_of limits seat first after left then last tells begun great new holds (p.served ++ ex.x ∷ []) m;
     }
 
 -- the input ended between two requests
-pub ended : {limits : Limits} {seat : ℕ} {first front : History} {left now written before was : Option (List ℕ)} {last told : Option ℕ} {greatest : ℕ} {session : Session} {held : Held}
+pub ended : {limits : Limits} {seat : ℕ} {first front : History} {left now written before was : Option (List ℕ)} {last told : Option ℕ} {begun greatest : ℕ} {time : ℕ} {held : Held}
     (then : Option (List ℕ)) (new : Held)
-    → Progress limits seat first front left now written before last told greatest session held
+    → Progress limits seat first front left now written before last told begun greatest time held
     → was ≡ before → NextOf held new now then (Ok None) → Enumerates limits front
-    → Headline limits seat first front left then written was last greatest end.Done
-ended {limits} {seat} {first} {front} {left} {now} {written} {before} {was} {last} {told} {greatest} {session} {held} then new p same next law =
+    → Headline limits seat first front left then written was last begun greatest end.Done
+ended {limits} {seat} {first} {front} {left} {now} {written} {before} {was} {last} {told} {begun} {greatest} {time} {held} then new p same next law =
     let wrote : WroteSoFar written was p.served = subst (λ (o : Option (List ℕ)). WroteSoFar written o p.served) (sym same) p.wrote in
     record {
       served = p.served;
@@ -393,21 +365,21 @@ ended {limits} {seat} {first} {front} {left} {now} {written} {before} {was} {las
       enumerates = law;
       reads = reads_done left now then held new (requests_of p.served) p.moved.read next;
       writes = writes_end left then written was was p.served end.Done (λ e. cc) wrote (wrote_none was);
-      moments = moments_of limits seat first front left now last told greatest session held p.served p.moved;
+      moments = moments_of limits seat first front left now last told begun greatest time held p.served p.moved;
     }
 
 -- the wire ended, and its last words were written or cut
-pub closed : {limits : Limits} {seat : ℕ} {first front : History} {left now written before was is : Option (List ℕ)} {last told : Option ℕ} {greatest : ℕ} {session : Session} {held : Held} {wired : WireEnd} {result : ConnEnd}
+pub closed : {limits : Limits} {seat : ℕ} {first front : History} {left now written before was is : Option (List ℕ)} {last told : Option ℕ} {begun greatest : ℕ} {time : ℕ} {held : Held} {wired : WireEnd} {result : ConnEnd}
     (mid then : Option (List ℕ)) (new : Held)
-    → Progress limits seat first front left now written before last told greatest session held
+    → Progress limits seat first front left now written before last told begun greatest time held
     → was ≡ before → NextOf held new now mid (Err wired) → then ≡ mid → Closed was is wired result → Enumerates limits front
-    → Headline limits seat first front left then written is last greatest result
-closed {limits} {seat} {first} {front} {left} {now} {written} {before} {was} {is} {last} {told} {greatest} {session} {held} {wired} {result} mid then new p same next rest closes law =
-    let moments = moments_of limits seat first front left now last told greatest session held p.served p.moved in
+    → Headline limits seat first front left then written is last begun greatest result
+closed {limits} {seat} {first} {front} {left} {now} {written} {before} {was} {is} {last} {told} {begun} {greatest} {time} {held} {wired} {result} mid then new p same next rest closes law =
+    let moments = moments_of limits seat first front left now last told begun greatest time held p.served p.moved in
     let wrote : WroteSoFar written was p.served = subst (λ (o : Option (List ℕ)). WroteSoFar written o p.served) (sym same) p.wrote in
     let read : NextOf held new now then (Err wired) = subst (λ (o : Option (List ℕ)). NextOf held new now o (Err wired)) (sym rest) next in
     let reads = reads_end left now then held new (requests_of p.served) wired closes.aim p.moved.read read closes.aims in
-    let P : ConnEnd → Type 0 = λ r. Headline limits seat first front left then written is last greatest r in
+    let P : ConnEnd → Type 0 = λ r. Headline limits seat first front left then written is last begun greatest r in
     ⊎_elim
     (λ (fine : (result ≡ closes.aim) × Wrote was is (last_words closes.aim)).
     subst P (sym fine.0) (record {

@@ -38,6 +38,7 @@ refused_by name other (reply.Wrote result seq) = refl
 refused_by name other (reply.Sealed numbers) = refl
 refused_by name other (reply.Opened number) = refl
 refused_by name other (reply.Found answer) = refl
+refused_by name other (reply.Closed freed) = refl
 refused_by name other reply.Spent = refl
 refused_by name other reply.NoIndex = refl
 refused_by name other reply.Exists = refl

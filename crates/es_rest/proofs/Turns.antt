@@ -1,12 +1,11 @@
 -- Requests and their responses in turn.
-use Rattle.std.proofs.Common.{◌≡◌, refl, sym, ap, subst, inl, inr, ⊎_elim, ◌⊎◌, ℕ, ◌+◌, ◌*◌, List, [], Option, Some, None, IfSome, IfNone, Result}
+use Rattle.std.proofs.Common.{◌≡◌, refl, sym, ap, subst, inl, inr, ⊎_elim, ◌⊎◌, ℕ, ◌+◌, ◌*◌, List, [], Option, Some, None, IfSome, Result}
 use Rattle.std.proofs.lemmas.List.{append-nil}
 use Rattle.http_wire.specs.declared.wire.WireEnd.{WireEnd}
 use Rattle.http_wire.specs.Stream.{Wrote, WroteSome}
 use Rattle.list_machine.specs.Serving.{GrowsBeside, applied}
 use Rattle.es_rest.specs.declared.connection.ConnEnd.{ConnEnd}
 use Rattle.es_rest.specs.declared.connection.ConnEnd.TheVariants as end
-use Rattle.es_rest.specs.declared.connection.Session.{Session}
 use Rattle.reply_json.specs.Replies.{text}
 use Rattle.es_rest.specs.Headline.{last_words}
 use Rattle.es_rest.specs.Turns.{Aims, Answered, Closed, Exchanged, WroteBy, words_text}
@@ -16,12 +15,12 @@ use Rattle.list_machine.specs.Run.{History, state_of}
 use Rattle.reply_json.specs.declared.response.Response.{Response}
 use Rattle.reply_json.specs.declared.response.Response.TheVariants.{Fault}
 use Rattle.reply_json.specs.declared.fault.RestFault.TheVariants.{NoMemory}
-use Rattle.es_rest.specs.Talk.{Responds, newest_after}
+use Rattle.es_rest.specs.Talk.{Responds}
 
 -- a response that could not be printed is the one that memory is wanting
-pub wants_instead : (limits : Limits) (seat moment newest : ℕ) (old new : History) (request : Request) (response : Response)
-    → Responds limits seat moment newest old new request response → Responds limits seat moment newest old new request (Fault NoMemory)
-wants_instead limits seat moment newest old new request response h =
+pub wants_instead : (limits : Limits) (seat moment : ℕ) (old new : History) (request : Request) (response : Response)
+    → Responds limits seat moment old new request response → Responds limits seat moment old new request (Fault NoMemory)
+wants_instead limits seat moment old new request response h =
     ⊎_elim
     (λ fault. inr (inr (record { asked = inl fault.same; is = refl })))
     (λ other. ⊎_elim
@@ -55,37 +54,32 @@ closed_with written now wire aim result words aims said wrote =
     record { aim = aim; aims = aims; wrote = subst P said wrote }
 
 -- a response with its text, or the one that memory is wanting
-pub answered_by : (limits : Limits) (seat moment newest after : ℕ) (old new : History) (request : Request) (response : Response) (made : Option (List ℕ))
-    → Responds limits seat moment newest old new request response
-    → IfSome made (λ bytes. (bytes ≡ text response request.last) × (after ≡ newest_after newest response)) → IfNone made (after ≡ newest)
-    → Answered limits seat moment newest after old new request (words_text made request.last)
-answered_by limits seat moment newest after old new request response None h some none =
-    record { response = Fault NoMemory; responds = wants_instead limits seat moment newest old new request response h; tells = none; words_are = refl }
-answered_by limits seat moment newest after old new request response (Some bytes) h some none =
-    record { response = response; responds = h; tells = some.1; words_are = some.0 }
+pub answered_by : (limits : Limits) (seat moment : ℕ) (old new : History) (request : Request) (response : Response) (made : Option (List ℕ))
+    → Responds limits seat moment old new request response → IfSome made (λ bytes. bytes ≡ text response request.last)
+    → Answered limits seat moment old new request (words_text made request.last)
+answered_by limits seat moment old new request response None h some =
+    record { response = Fault NoMemory; responds = wants_instead limits seat moment old new request response h; words_are = refl }
+answered_by limits seat moment old new request response (Some bytes) h some = record { response = response; responds = h; words_are = some }
 
 -- what goes with a request, by other names of its seat and limits
 abbrev pub Helps : Limits → ℕ → ℕ → History → History → Type 0
 Helps limits seat moment old new = (helped : History) × GrowsBeside seat 4 moment old helped × GrowsBeside seat (4 + 2 * applied (state_of limits helped)) moment helped new
 
-pub exchanged_by : (limits other : Limits) (seat others : ℕ) (old new : Session) (front mid after : History) (request : Request) (words : List ℕ) (written now : Option (List ℕ)) {E : Type 0} (result : Result (Unit {0}) E)
-    → other ≡ limits → others ≡ seat
-    → Answered limits seat new.moment old.newest new.newest front mid request words
-    → WroteBy written now words result → Helps other others new.moment mid after
-    → Exchanged limits seat old new front after request written now result
-exchanged_by limits other seat others old new front mid after request words written now {E} result l s answered wrote helps =
-    let h : Helps limits seat new.moment mid after = subst (λ (k : Limits). Helps k seat new.moment mid after) l (subst (λ (t : ℕ). Helps other t new.moment mid after) s helps) in
+pub exchanged_by : (limits other : Limits) (seat others moment : ℕ) (front mid after : History) (request : Request) (words : List ℕ) (written now : Option (List ℕ)) {E : Type 0} (result : Result (Unit {0}) E)
+    → other ≡ limits → others ≡ seat → Answered limits seat moment front mid request words → WroteBy written now words result → Helps other others moment mid after
+    → Exchanged limits seat moment front after request written now result
+exchanged_by limits other seat others moment front mid after request words written now {E} result l s answered wrote helps =
+    let h : Helps limits seat moment mid after = subst (λ (k : Limits). Helps k seat moment mid after) l (subst (λ (t : ℕ). Helps other t moment mid after) s helps) in
     record {
-      x = record { request = request; moment = new.moment; response = answered.response };
+      x = record { request = request; moment = moment; response = answered.response };
       request_is = refl;
       moment_is = refl;
       served = record { answered = mid; helped = h.0; responds = answered.responds; helps = h.1; tidies = h.2 };
-      newest_is = answered.tells;
       wrote = subst (λ (w : List ℕ). WroteBy written now w result) answered.words_are wrote;
     }
 
 -- the same exchange by other names of the seat and the limits
-pub exchanged_as : {limits other : Limits} {seat others : ℕ} → other ≡ limits → others ≡ seat → (old new : Session) (front after : History) (request : Request) (written now : Option (List ℕ)) {E : Type 0} (result : Result (Unit {0}) E)
-    → Exchanged other others old new front after request written now result → Exchanged limits seat old new front after request written now result
-exchanged_as {limits} {other} {seat} {others} l s old new front after request written now {E} result h =
-    subst (λ (k : Limits). Exchanged k seat old new front after request written now result) l (subst (λ (t : ℕ). Exchanged other t old new front after request written now result) s h)
+pub exchanged_as : {limits other : Limits} {seat others : ℕ} → other ≡ limits → others ≡ seat → (moment : ℕ) (front after : History) (request : Request) (written now : Option (List ℕ)) {E : Type 0} (result : Result (Unit {0}) E)
+    → Exchanged other others moment front after request written now result → Exchanged limits seat moment front after request written now result
+exchanged_as {limits} {other} {seat} {others} l s moment front after request written now {E} result h =
+    subst (λ (k : Limits). Exchanged k seat moment front after request written now result) l (subst (λ (t : ℕ). Exchanged other t moment front after request written now result) s h)

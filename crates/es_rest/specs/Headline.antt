@@ -1,5 +1,5 @@
 -- What a call that serves a connection did.
-use Rattle.std.specs.Prelude.{◌≡◌, ◌≢◌, ◌⊎◌, ℕ, ◌<◌, ◌≤◌, true, List, [], ◌∷◌, ◌++◌, length, take, map, flat_map, Option, Some, None, All}
+use Rattle.std.specs.Prelude.{◌≡◌, ◌≢◌, ◌⊎◌, ℕ, ◌<◌, ◌≤◌, true, List, [], ◌∷◌, ◌++◌, length, take, map, flat_map, Option, Some, None, All, max}
 use Rattle.http_wire.specs.declared.request.Request.{Request}
 use Rattle.http_wire.specs.Requests.{HasNoRequest, IsRefused, IsUnfinished, Spells, connection_limit}
 use Rattle.list_machine.specs.declared.event.Limits.{Limits}
@@ -10,6 +10,7 @@ use Rattle.es_rest.specs.declared.connection.ConnEnd.TheVariants.{Done, Refused,
 use Rattle.reply_json.specs.declared.response.Response.TheVariants.{Fault}
 use Rattle.reply_json.specs.declared.fault.RestFault.TheVariants as fault
 use Rattle.reply_json.specs.Replies.{text}
+use Rattle.es_rest.specs.Moments.{moments_of}
 use Rattle.es_rest.specs.Talk.{Exchange, Serves}
 
 abbrev pub requests_of : List Exchange → List Request
@@ -99,25 +100,34 @@ abbrev pub NeverFalls : ℕ → List Exchange → Type 0
 NeverFalls from [] = Unit {0}
 NeverFalls from (x ∷ served) = (from ≤ x.moment) × NeverFalls x.moment served
 
--- where the clock tells its last answer, each request that hands in none has that moment
-abbrev pub AtLast : Option ℕ → List Exchange → Type 0
-AtLast None served = Unit {0}
-AtLast (Some last) served = All (λ (x : Exchange). x.moment ≡ last) served
+-- Where the clock tells its last answer, it answers a request by what that hands in, where it is readable, and else by the answer
+-- before; and the moment is the greatest of its answers in this call until then.
+abbrev pub FollowClock : Option ℕ → List Exchange → Type 0
+FollowClock None served = Unit {0}
+FollowClock (Some last) served = map (λ (x : Exchange). x.moment) served ≡ moments_of last 0 (requests_of served)
 
-pub record AreMoments (last : Option ℕ) (greatest : ℕ) (served : List Exchange) : Type 0 where
+-- the moment of the last one
+abbrev pub latest : ℕ → List Exchange → ℕ
+latest from [] = from
+latest from (x ∷ served) = latest x.moment served
+
+-- Whatever clock it is, whose greatest answers before and behind the call are these: the moment is the greatest that it answered in
+-- the call.
+pub record AreMoments (last : Option ℕ) (begun greatest : ℕ) (served : List Exchange) : Type 0 where
   pub never_fall : NeverFalls 0 served
   pub bounded : All (λ (x : Exchange). x.moment ≤ greatest) served
-  pub told : AtLast last served
+  pub greatest_is : greatest ≡ max begun (latest 0 served)
+  pub told : FollowClock last served
 
 -- ---- the whole
 
 -- Each response is what a plain machine of one thread over lists answers at that request's place in one history,
 -- and pages taken in turn are a prefix of the sorted matching documents of their frozen view, and all of them at
 -- the end.
-pub record Headline (limits : Limits) (seat : ℕ) (old new : History) (left left_after written written_after : Option (List ℕ)) (last : Option ℕ) (greatest : ℕ) (end : ConnEnd) : Type 0 where
+pub record Headline (limits : Limits) (seat : ℕ) (old new : History) (left left_after written written_after : Option (List ℕ)) (last : Option ℕ) (begun greatest : ℕ) (end : ConnEnd) : Type 0 where
   pub served : List Exchange
-  pub serves : Serves limits seat 0 old new served
+  pub serves : Serves limits seat old new served
   pub enumerates : Enumerates limits new
   pub reads : ReadsFrom left left_after (requests_of served) end
   pub writes : WritesTo left left_after written written_after served end
-  pub moments : AreMoments last greatest served
+  pub moments : AreMoments last begun greatest served

@@ -26,10 +26,10 @@ use Rattle.es_rest.specs.Scripts.{is_refused, refusal}
 
 -- a body's fault as a refusal
 abbrev pub body_fault : BodyFault → RestFault
-body_fault body.NotBuilt = fault.NotBuilt
 body_fault body.NotJson = fault.BadBody
 body_fault body.Shape = fault.BadBody
 body_fault (body.Limit name) = fault.Limit name
+body_fault body.BadId = fault.BadId
 
 -- a name and an id that break their rules are told in this order
 abbrev pub named : {A : Type 0} → List ℕ → List ℕ → A → Result A RestFault

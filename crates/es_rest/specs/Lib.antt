@@ -4,6 +4,7 @@ pub mod Items
 pub mod Route
 pub mod Talk
 pub mod Led
+pub mod Moments
 pub mod Headline
 pub mod Turns
 pub mod Whole

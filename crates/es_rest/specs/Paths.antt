@@ -13,10 +13,11 @@ use Rattle.matchit.specs.Order.{placed}
 use Rattle.matchit.specs.Seek.{first}
 use Rattle.matchit.specs.Route.{Scan, parse_route}
 use Rattle.matchit.specs.declared.error.InsertError.{InsertError}
+use Rattle.search_json.specs.Pits.{context_keep}
 use Rattle.reply_json.specs.declared.fault.RestFault.{RestFault}
 use Rattle.reply_json.specs.declared.fault.RestFault.TheVariants.{BadParam}
 use Rattle.es_rest.specs.declared.paths.Place.{Place}
-use Rattle.es_rest.specs.declared.paths.Place.TheVariants.{Index, Doc, Bulk, IndexBulk, Refresh, OpenPit, Search, IndexSearch}
+use Rattle.es_rest.specs.declared.paths.Place.TheVariants.{Index, Doc, Bulk, IndexBulk, Refresh, OpenPit, ClosePit, Search, IndexSearch}
 use Rattle.es_rest.specs.declared.params.Param.{Param}
 
 -- ---- routes
@@ -36,12 +37,13 @@ unfoldable pub all_routes : Routes
 all_routes =
     with_route (codes "/{index}/_search") IndexSearch
     (with_route (codes "/_search") Search
+    (with_route (codes "/_pit") ClosePit
     (with_route (codes "/{index}/_pit") OpenPit
     (with_route (codes "/{index}/_refresh") Refresh
     (with_route (codes "/{index}/_bulk") IndexBulk
     (with_route (codes "/_bulk") Bulk
     (with_route (codes "/{index}/_doc/{id}") Doc
-    (with_route (codes "/{index}") Index [])))))))
+    (with_route (codes "/{index}") Index []))))))))
 
 -- the route that a path has, as it is sent: text goes before a parameter, which is a whole part of the path
 unfoldable pub place_of : List ℕ → Option Place
@@ -128,4 +130,16 @@ batch_in given [] = Ok (given_or_usual given)
 batch_in given (param ∷ params) =
     if not (is_some given) && bytes_eq param.name (codes "batched_reduce_size")
     then value_or_fault (batch_value param.value) (λ batch. batch_in (Some batch) params) (BadParam param.name)
+    else Err (BadParam param.name)
+
+abbrev pub keep_or_wanting : Option (Option ℕ) → Result (Option ℕ) RestFault
+keep_or_wanting None = Err (BadParam (codes "keep_alive"))
+keep_or_wanting (Some keep) = Ok keep
+
+-- How long these parameters say that a point in time is kept, where it may be kept so long: `keep_alive` is needed, once. The first
+-- that isn't taken is a fault, and one that is wanting comes behind all.
+abbrev pub keep_in : Option (Option ℕ) → List Param → Result (Option ℕ) RestFault
+keep_in given [] = keep_or_wanting given
+keep_in given (param ∷ params) =
+    if not (is_some given) && bytes_eq param.name (codes "keep_alive") then keep_in (Some (context_keep param.value)) params
     else Err (BadParam param.name)

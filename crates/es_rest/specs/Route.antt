@@ -5,14 +5,18 @@ use Rattle.es_types.specs.declared.doc.Doc.{Doc}
 use Rattle.es_types.specs.Name.{is_index_name}
 use Rattle.es_types.specs.declared.limit.LimitName.{LimitName}
 use Rattle.es_types.specs.declared.limit.LimitName.TheVariants as limit
+use Rattle.ctx_ids.specs.declared.id.ContextId.{ContextId}
+use Rattle.ctx_ids.specs.declared.id.Kind.{Kind}
+use Rattle.ctx_ids.specs.declared.id.Kind.TheVariants as kind
 use Rattle.http_wire.specs.declared.request.Request.{Request}
+use Rattle.serde_json.specs.Data.{Data}
 use Rattle.doc_json.specs.declared.fault.BodyFault.{BodyFault}
 use Rattle.doc_json.specs.declared.fault.BodyFault.TheVariants as body
 use Rattle.doc_json.specs.declared.bulk.BulkItem.{BulkItem}
 use Rattle.doc_json.specs.declared.index.IndexSpec.{IndexSpec}
 use Rattle.doc_json.specs.Documents.{doc_of}
 use Rattle.doc_json.specs.Indexes.{index_of}
-use Rattle.doc_json.specs.Json.{is_white}
+use Rattle.doc_json.specs.Json.{data_of, is_form, is_white}
 use Rattle.list_machine.specs.Objects.{IsObject}
 use Rattle.list_machine.specs.Run.{IsBounded, IsWithinLimits}
 use Rattle.list_machine.specs.declared.event.Event.TheVariants as event
@@ -22,13 +26,16 @@ use Rattle.reply_json.specs.declared.fault.RestFault.{RestFault}
 use Rattle.reply_json.specs.declared.fault.RestFault.TheVariants as fault
 use Rattle.es_rest.specs.declared.ask.Ask.{Ask}
 use Rattle.es_rest.specs.declared.ask.Ask.TheVariants as ask
+use Rattle.search_json.specs.declared.search.PitRef.{PitRef}
 use Rattle.search_json.specs.declared.search.SearchBody.{SearchBody}
+use Rattle.search_json.specs.Pits.{pit_close_of}
 use Rattle.search_json.specs.Searches.{search_of}
 use Rattle.es_rest.specs.declared.paths.Place.{Place}
 use Rattle.es_rest.specs.declared.paths.Place.TheVariants as place
 use Rattle.es_rest.specs.Items.{body_fault, items_of, named}
+use Rattle.es_rest.specs.Moments.{is_unreadable}
 use Rattle.es_rest.specs.declared.params.Param.{Param}
-use Rattle.es_rest.specs.Paths.{batch_in, decoded, has_param, params_of, part, place_of, refresh_in, usual_batch}
+use Rattle.es_rest.specs.Paths.{batch_in, decoded, has_param, keep_in, params_of, part, place_of, refresh_in, usual_batch}
 
 abbrev pub and_then : {A B : Type 0} → Result A RestFault → (A → Result B RestFault) → Result B RestFault
 and_then (Ok value) next = next value
@@ -126,17 +133,41 @@ refresh_asked request =
     and_then (index_in request) (λ index. and_then (refresh_in false None (params_of request.query)) (λ refresh.
     and_then (no_body request) (λ none. named_index index (ask.Refresh index))))
 
--- how long a point in time is kept: the one time that is built
-abbrev pub minute : ℕ
-minute = 60000
+-- ---- points in time
 
-abbrev pub is_opening : Request → Bool
-is_opening request =
-    is_method (codes "POST") request && (bytes_eq request.query (codes "keep_alive=1m") && is_empty request.body)
+abbrev pub is_empty_object : Option Data → Bool
+is_empty_object None = false
+is_empty_object (Some value) = is_form [] value
+
+-- no body, or an object without members
+abbrev pub empty_body : Request → Result Bool RestFault
+empty_body request = if is_blank request.body || is_empty_object (data_of request.body) then Ok true else Err fault.BadBody
+
+-- a name that is none comes before a time that is too long
+abbrev pub opening_of : List ℕ → Option ℕ → Result Ask RestFault
+opening_of index None = limit_told index limit.KeepAlive
+opening_of index (Some keep) = named_index index (ask.OpenPit index keep)
 
 abbrev pub opening_asked : Request → Result Ask RestFault
 opening_asked request =
-    if is_opening request then and_then (index_in request) (λ index. named_index index (ask.OpenPit index minute)) else Err fault.NotBuilt
+    and_then (index_in request) (λ index. and_then (keep_in None (params_of request.query)) (λ keep.
+    and_then (empty_body request) (λ none. opening_of index keep)))
+
+abbrev pub number_by : Kind → ℕ → ℕ
+number_by kind.Pit number = number
+number_by other number = 0
+
+-- the number of a point in time; an id of another kind has 0, which none has
+abbrev pub pit_number : ContextId → ℕ
+pit_number id = number_by id.kind id.number
+
+abbrev pub closing_of : Result ContextId BodyFault → Result Ask RestFault
+closing_of (Ok id) = Ok (ask.ClosePit (pit_number id))
+closing_of (Err fault) = Err (body_fault fault)
+
+abbrev pub closing_asked : Request → Result Ask RestFault
+closing_asked request =
+    and_then (refresh_in false None (params_of request.query)) (λ none. closing_of (pit_close_of request.body))
 
 -- ---- searches
 
@@ -145,11 +176,6 @@ abbrev pub AreWithinLimits : Result SearchBody BodyFault → Type 0
 AreWithinLimits (Ok asked) = IsWithinLimits asked.request
 AreWithinLimits (Err fault) = Unit {0}
 
--- a form of the body that isn't built goes before all other refusals
-abbrev pub check_form : Result SearchBody BodyFault → Result (Unit {0}) RestFault
-check_form (Err body.NotBuilt) = Err fault.NotBuilt
-check_form other = Ok tt
-
 abbrev pub batch_asked : Request → Result ℕ RestFault
 batch_asked request = batch_in None (params_of request.query)
 
@@ -157,9 +183,8 @@ abbrev pub is_batch : ℕ → Bool
 is_batch batch = nat_le 2 batch && nat_le batch 1024
 
 -- what a body is read with: the usual number where the request's is none
-abbrev pub batch_used : Result ℕ RestFault → ℕ
-batch_used (Ok batch) = if is_batch batch then batch else usual_batch
-batch_used (Err fault) = usual_batch
+abbrev pub batch_used : ℕ → ℕ
+batch_used batch = if is_batch batch then batch else usual_batch
 
 -- the index that the path names, where it names one
 abbrev pub index_where : Bool → Request → Result (Option (List ℕ)) RestFault
@@ -169,32 +194,31 @@ abbrev pub index_told : Option (List ℕ) → Result (Option (List ℕ)) RestFau
 index_told None = Ok None
 index_told (Some index) = named_index index (Some index)
 
--- the limits that are told before those of the body: of the index's name, and then of the batch
+-- the limits that are told before most of the body's: of the index's name, and then of the batch
 abbrev pub limits_told : Option (List ℕ) → ℕ → Result (Option (List ℕ)) RestFault
 limits_told index batch = and_then (index_told index) (λ index. if is_batch batch then Ok index else Err (fault.Limit limit.Batch))
 
-abbrev pub searched_pit : Option ℕ → SearchRequest → Result Ask RestFault
+abbrev pub searched_pit : Option PitRef → SearchRequest → Result Ask RestFault
 searched_pit None request = Err (fault.Limit limit.Pit)
-searched_pit (Some number) request = Ok (ask.Search (target.Pit number) request)
+searched_pit (Some pit) request = Ok (ask.Search (target.Pit (pit_number pit.id) pit.keep) request (Some pit.id))
 
 abbrev pub target_asked : Option (List ℕ) → SearchBody → Result Ask RestFault
-target_asked (Some index) asked = Ok (ask.Search (target.Index index) asked.request)
+target_asked (Some index) asked = Ok (ask.Search (target.Index index) asked.request None)
 target_asked None asked = searched_pit asked.pit asked.request
 
--- a body that is none comes before all limits
+-- A body that is none comes before all limits, and a text that is no id behind them. How long a point in time is kept is told before
+-- the batch.
 abbrev pub search_told : Option (List ℕ) → ℕ → Result SearchBody BodyFault → Result Ask RestFault
 search_told index batch (Ok asked) = and_then (limits_told index batch) (λ index. target_asked index asked)
+search_told index batch (Err (body.Limit limit.KeepAlive)) = and_then (index_told index) (λ index. Err (fault.Limit limit.KeepAlive))
 search_told index batch (Err (body.Limit name)) = and_then (limits_told index batch) (λ index. Err (fault.Limit name))
+search_told index batch (Err body.BadId) = and_then (limits_told index batch) (λ index. Err fault.BadId)
 search_told index batch (Err other) = Err (body_fault other)
 
--- the body is known
-abbrev pub search_by : Bool → Request → Result SearchBody BodyFault → Result Ask RestFault
-search_by has_index request asked =
-    and_then (check_form asked) (λ built. and_then (index_where has_index request) (λ index.
-    and_then (batch_asked request) (λ batch. search_told index batch asked)))
-
-abbrev pub search_asked : Bool → ℕ → Request → Result Ask RestFault
-search_asked has_index newest request = search_by has_index request (search_of has_index newest (batch_used (batch_asked request)) request.body)
+abbrev pub search_asked : Bool → Request → Result Ask RestFault
+search_asked has_index request =
+    and_then (index_where has_index request) (λ index. and_then (batch_asked request) (λ batch.
+    search_told index batch (search_of has_index (batch_used batch) request.body)))
 
 -- the parameters of a search that aren't built yet: `scroll` is one of an index
 abbrev pub has_unbuilt : Bool → List Param → Bool
@@ -218,28 +242,39 @@ doc_asked request =
     else built (is_method (codes "DELETE") request) request (remove_asked request)
 
 -- what a request of a route that begins with an index asks for
-abbrev pub asked_at_index : ℕ → Request → Place → Result Ask RestFault
-asked_at_index newest request place.Index = built (is_method (codes "PUT") request) request (create_asked request)
-asked_at_index newest request place.Doc = doc_asked request
-asked_at_index newest request place.IndexBulk = built (puts_or_posts request) request (index_bulk_asked request)
-asked_at_index newest request place.Refresh = built (gets_or_posts request) request (refresh_asked request)
-asked_at_index newest request place.IndexSearch = and_then (check_search true request) (λ yes. search_asked true newest request)
-asked_at_index newest request place.OpenPit = opening_asked request
-asked_at_index newest request other = Err fault.NotBuilt
+abbrev pub asked_at_index : Request → Place → Result Ask RestFault
+asked_at_index request place.Index = built (is_method (codes "PUT") request) request (create_asked request)
+asked_at_index request place.Doc = doc_asked request
+asked_at_index request place.IndexBulk = built (puts_or_posts request) request (index_bulk_asked request)
+asked_at_index request place.Refresh = built (gets_or_posts request) request (refresh_asked request)
+asked_at_index request place.IndexSearch = and_then (check_search true request) (λ yes. search_asked true request)
+asked_at_index request place.OpenPit = built (is_method (codes "POST") request) request (opening_asked request)
+asked_at_index request other = Err fault.NotBuilt
 
 -- the index's part of the path is none of the service's own words
-abbrev pub of_index : ℕ → Request → Place → Result Ask RestFault
-of_index newest request place = if is_own_word (part 1 request.path) then Err fault.NotBuilt else asked_at_index newest request place
+abbrev pub of_index : Request → Place → Result Ask RestFault
+of_index request place = if is_own_word (part 1 request.path) then Err fault.NotBuilt else asked_at_index request place
 
-abbrev pub asked_at : ℕ → Request → Option Place → Result Ask RestFault
-asked_at newest request None = Err fault.NotBuilt
-asked_at newest request (Some place.Bulk) = built (puts_or_posts request) request (bulk_asked None request)
-asked_at newest request (Some place.Search) = and_then (check_search false request) (λ yes. search_asked false newest request)
-asked_at newest request (Some place) = of_index newest request place
+abbrev pub asked_at : Request → Option Place → Result Ask RestFault
+asked_at request None = Err fault.NotBuilt
+asked_at request (Some place.Bulk) = built (puts_or_posts request) request (bulk_asked None request)
+asked_at request (Some place.Search) = and_then (check_search false request) (λ yes. search_asked false request)
+asked_at request (Some place.ClosePit) = built (is_method (codes "DELETE") request) request (closing_asked request)
+asked_at request (Some place) = of_index request place
 
--- What a request asks for, where points in time up to the newest were opened.
-unfoldable pub asked_of : ℕ → Request → Result Ask RestFault
-asked_of newest request = asked_at newest request (place_of request.path)
+-- what a request is answered that hands in a moment which isn't readable: all limits, ids and events come behind that
+abbrev pub behind_moment : Result Ask RestFault → Result Ask RestFault
+behind_moment (Ok ask) = Err (fault.Limit limit.Moment)
+behind_moment (Err (fault.Limit name)) = Err (fault.Limit limit.Moment)
+behind_moment (Err fault.BadId) = Err (fault.Limit limit.Moment)
+behind_moment (Err other) = Err other
+
+abbrev pub asked_when : Bool → Result Ask RestFault → Result Ask RestFault
+asked_when unreadable asked = if unreadable then behind_moment asked else asked
+
+-- what a request asks for
+unfoldable pub asked_of : Request → Result Ask RestFault
+asked_of request = asked_when (is_unreadable request) (asked_at request (place_of request.path))
 
 -- a call answers that, or wanted memory
 abbrev pub Answers : {A : Type 0} → Result A RestFault → Result A RestFault → Type 0
@@ -249,7 +284,7 @@ Answers answer asked = asked ≡ answer
 -- what is asked for may be asked: an index of 1 to 1,024 shards, a put of a JSON object, a bulk of items, a search within its limits
 abbrev pub AsksSound : Ask → Type 0
 AsksSound (ask.Create index spec) = IsBounded (event.Create index spec.shards spec.mapping)
-AsksSound (ask.Search target request) = IsBounded (event.Search target request)
+AsksSound (ask.Search target request sent) = IsBounded (event.Search target request)
 AsksSound (ask.Put index id doc refresh) = IsObject doc.source
 AsksSound (ask.Bulk index body refresh) = (items : List BulkItem) × (items_of index body ≡ Ok items)
 AsksSound other = Unit {0}

@@ -4,14 +4,12 @@ use Rattle.list_machine.specs.declared.event.Event.{Event}
 use Rattle.list_machine.specs.declared.event.Event.TheVariants as event
 use Rattle.list_machine.specs.declared.event.Reply.{Reply}
 use Rattle.list_machine.specs.declared.event.Reply.TheVariants as reply
-use Rattle.list_machine.specs.declared.event.Target.{Target}
 use Rattle.list_machine.specs.declared.event.Target.TheVariants.{Index, Pit}
 use Rattle.list_machine.specs.declared.event.Limits.{Limits}
 use Rattle.list_machine.specs.Run.{History}
 use Rattle.list_machine.specs.Serving.{Asked, MayHaveAsked, asked}
 use Rattle.reply_json.specs.declared.fault.RestFault.{RestFault}
 use Rattle.reply_json.specs.declared.fault.RestFault.TheVariants as fault
-use Rattle.reply_json.specs.Ids.{id_text}
 
 -- events that were asked, each with its reply
 abbrev pub Part : Type 0
@@ -23,19 +21,16 @@ Script = Part → Option Event
 
 -- ---- refusals
 
--- what a search names
-abbrev pub target_name : Target → List ℕ
-target_name (Index index) = index
-target_name (Pit number) = id_text number
-
--- what an event names: an index, or the id of a point in time
+-- the index that an event names, where it names one
 abbrev pub name_of : Event → List ℕ
 name_of (event.Create index shards mapping) = index
 name_of (event.Write index id change) = index
 name_of (event.Seal index) = index
 name_of (event.Publish index shard upto) = index
 name_of (event.OpenPit index keep) = index
-name_of (event.Search target request) = target_name target
+name_of (event.Search (Index index) request) = index
+name_of (event.Search (Pit number keep) request) = []
+name_of (event.Close which) = []
 name_of event.Quiet = []
 
 -- why a reply refuses its event

@@ -1,5 +1,7 @@
 -- Which events a request asks for, what it is answered, and what a row of requests makes of the history.
-use Rattle.std.specs.Prelude.{◌≡◌, ◌⊎◌, ℕ, ◌+◌, ◌*◌, max, Bool, if◌then◌else◌, List, [], ◌∷◌, Option, Some, None, Ok, Err}
+use Rattle.std.specs.Prelude.{◌≡◌, ◌⊎◌, ℕ, ◌+◌, ◌*◌, Bool, if◌then◌else◌, List, [], ◌∷◌, Option, Some, None, Ok, Err}
+use Rattle.ctx_ids.specs.declared.id.ContextId.{ContextId}
+use Rattle.ctx_ids.specs.Ids.{text_of}
 use Rattle.http_wire.specs.declared.request.Request.{Request}
 use Rattle.list_machine.specs.declared.event.Event.{Event}
 use Rattle.list_machine.specs.declared.event.Event.TheVariants as event
@@ -8,6 +10,7 @@ use Rattle.list_machine.specs.declared.event.Reply.{Reply}
 use Rattle.list_machine.specs.declared.event.Reply.TheVariants as reply
 use Rattle.list_machine.specs.declared.event.Target.{Target}
 use Rattle.list_machine.specs.declared.event.Target.TheVariants.{Index, Pit}
+use Rattle.list_machine.specs.declared.event.Which.TheVariants.{Pits}
 use Rattle.list_machine.specs.declared.event.Limits.{Limits}
 use Rattle.list_machine.specs.Run.{History, state_of}
 use Rattle.list_machine.specs.Serving.{GrowsBeside, applied}
@@ -18,12 +21,12 @@ use Rattle.reply_json.specs.declared.response.Response.TheVariants as response
 use Rattle.reply_json.specs.declared.response.Response.TheVariants.{Fault}
 use Rattle.reply_json.specs.declared.response.RouteName.{RouteName}
 use Rattle.reply_json.specs.declared.response.RouteName.TheVariants as route
-use Rattle.reply_json.specs.Documents.{wrote_status}
+use Rattle.reply_json.specs.Documents.{closed_status, wrote_status}
 use Rattle.es_rest.specs.declared.ask.Ask.{Ask}
-use Rattle.es_rest.specs.declared.ask.Ask.TheVariants.{Create, Put, Remove, Bulk, Refresh, OpenPit, Search}
+use Rattle.es_rest.specs.declared.ask.Ask.TheVariants.{Create, Put, Remove, Bulk, Refresh, OpenPit, ClosePit, Search}
 use Rattle.es_rest.specs.Items.{changed_by, items_in, items_of, lines_of, writes_of}
 use Rattle.es_rest.specs.Route.{asked_of}
-use Rattle.es_rest.specs.Scripts.{CutShort, Part, Script, Talks, each, is_refused, refreshes, refusal, refused, target_name}
+use Rattle.es_rest.specs.Scripts.{CutShort, Part, Script, Talks, each, is_refused, refreshes, refusal, refused}
 
 -- ---- what is asked
 
@@ -35,7 +38,8 @@ events_of (Remove index id refresh) = event.Write index id change.Remove ∷ []
 events_of (Bulk index body refresh) = writes_of (items_in (items_of index body))
 events_of (Refresh index) = []
 events_of (OpenPit index keep) = event.OpenPit index keep ∷ []
-events_of (Search target request) = event.Search target request ∷ []
+events_of (ClosePit number) = event.Close (Pits (number ∷ [])) ∷ []
+events_of (Search target request sent) = event.Search target request ∷ []
 
 -- the index of a Write that was taken, where a refresh is asked
 abbrev pub written : Bool → List ℕ → List Reply → List (List ℕ)
@@ -57,6 +61,7 @@ script_of ask = each (events_of ask) (λ replies. refreshes (refreshed_of ask re
 
 abbrev pub status_of : Reply → ℕ
 status_of (reply.Wrote result seq) = wrote_status result
+status_of (reply.Closed freed) = closed_status freed
 status_of other = 200
 
 -- what a reply on that route is answered, unless it refuses
@@ -77,7 +82,17 @@ seal_answer (said ∷ part) = response.Json (status_of said.1) said.1 route.Refr
 -- how the answer of a search is printed
 abbrev pub search_route : Target → RouteName
 search_route (Index index) = route.Search None
-search_route (Pit number) = route.Search (Some number)
+search_route (Pit number keep) = route.Search (Some number)
+
+-- the text of an id as it was sent
+abbrev pub sent_text : Option ContextId → List ℕ
+sent_text None = []
+sent_text (Some id) = text_of id
+
+-- what the refusal of a search names: the index, or the id as it was sent
+abbrev pub search_name : Target → Option ContextId → List ℕ
+search_name (Index index) sent = index
+search_name (Pit number keep) sent = sent_text sent
 
 -- what the replies are answered, where no refresh was refused
 abbrev pub answer_of : Ask → List Reply → Part → Response
@@ -87,7 +102,8 @@ answer_of (Remove index id refresh) replies part = one_answer index (route.Remov
 answer_of (Bulk index body refresh) replies part = response.Bulk (lines_of (items_in (items_of index body)) replies)
 answer_of (Refresh index) replies part = seal_answer part
 answer_of (OpenPit index keep) replies part = one_answer index route.OpenPit replies
-answer_of (Search target request) replies part = one_answer (target_name target) (search_route target) replies
+answer_of (ClosePit number) replies part = one_answer [] route.ClosePit replies
+answer_of (Search target request sent) replies part = one_answer (search_name target sent) (search_route target) replies
 
 abbrev pub or_fault : Option RestFault → Response → Response
 or_fault (Some why) answer = response.Fault why
@@ -117,32 +133,32 @@ abbrev pub Interrupted : Limits → ℕ → ℕ → Ask → History → History 
 Interrupted limits seat moment ask old new = CutShort limits seat moment (script_of ask) old new
 
 -- a refused request asks for nothing
-pub record IsFault (newest : ℕ) (old new : History) (request : Request) (response : Response) : Type 0 where
+pub record IsFault (old new : History) (request : Request) (response : Response) : Type 0 where
   pub fault : RestFault
-  pub route : asked_of newest request ≡ Err fault
+  pub route : asked_of request ≡ Err fault
   pub same : new ≡ old
   pub is : response ≡ Fault fault
 
-pub record IsDone (limits : Limits) (seat moment newest : ℕ) (old new : History) (request : Request) (response : Response) : Type 0 where
+pub record IsDone (limits : Limits) (seat moment : ℕ) (old new : History) (request : Request) (response : Response) : Type 0 where
   pub ask : Ask
-  pub route : asked_of newest request ≡ Ok ask
+  pub route : asked_of request ≡ Ok ask
   pub conversation : Conversation limits seat moment ask old new response
 
-pub record IsCutShort (limits : Limits) (seat moment newest : ℕ) (old new : History) (request : Request) : Type 0 where
+pub record IsCutShort (limits : Limits) (seat moment : ℕ) (old new : History) (request : Request) : Type 0 where
   pub ask : Ask
-  pub route : asked_of newest request ≡ Ok ask
+  pub route : asked_of request ≡ Ok ask
   pub interrupted : Interrupted limits seat moment ask old new
 
 -- memory was wanted, at any point of it
-pub record WantsMemory (limits : Limits) (seat moment newest : ℕ) (old new : History) (request : Request) (response : Response) : Type 0 where
-  pub asked : (new ≡ old) ⊎ IsCutShort limits seat moment newest old new request
+pub record WantsMemory (limits : Limits) (seat moment : ℕ) (old new : History) (request : Request) (response : Response) : Type 0 where
+  pub asked : (new ≡ old) ⊎ IsCutShort limits seat moment old new request
   pub is : response ≡ Fault fault.NoMemory
 
 -- what a request asks for, and its response
-abbrev pub Responds : Limits → ℕ → ℕ → ℕ → History → History → Request → Response → Type 0
-Responds limits seat moment newest old new request response =
-    IsFault newest old new request response
-    ⊎ (IsDone limits seat moment newest old new request response ⊎ WantsMemory limits seat moment newest old new request response)
+abbrev pub Responds : Limits → ℕ → ℕ → History → History → Request → Response → Type 0
+Responds limits seat moment old new request response =
+    IsFault old new request response
+    ⊎ (IsDone limits seat moment old new request response ⊎ WantsMemory limits seat moment old new request response)
 
 -- a request, the connection's moment at it, and its response
 pub record Exchange : Type 0 where
@@ -150,21 +166,15 @@ pub record Exchange : Type 0 where
   pub moment : ℕ
   pub response : Response
 
--- the newest point in time of which responses told
-abbrev pub newest_after : ℕ → Response → ℕ
-newest_after newest (response.Json status (reply.Opened number) route) = max newest number
-newest_after newest other = newest
-
 -- the response, and behind it the help and the tidying that go with every request
-pub record Served (limits : Limits) (seat newest : ℕ) (old new : History) (x : Exchange) : Type 0 where
+pub record Served (limits : Limits) (seat : ℕ) (old new : History) (x : Exchange) : Type 0 where
   pub answered : History
   pub helped : History
-  pub responds : Responds limits seat x.moment newest old answered x.request x.response
+  pub responds : Responds limits seat x.moment old answered x.request x.response
   pub helps : GrowsBeside seat 4 x.moment answered helped
   pub tidies : GrowsBeside seat (4 + 2 * applied (state_of limits helped)) x.moment helped new
 
 -- The history goes from old to new while a seat serves these requests with these responses.
-abbrev pub Serves : Limits → ℕ → ℕ → History → History → List Exchange → Type 0
-Serves limits seat newest old new [] = new ≡ old
-Serves limits seat newest old new (x ∷ served) =
-    (mid : History) × Served limits seat newest old mid x × Serves limits seat (newest_after newest x.response) mid new served
+abbrev pub Serves : Limits → ℕ → History → History → List Exchange → Type 0
+Serves limits seat old new [] = new ≡ old
+Serves limits seat old new (x ∷ served) = (mid : History) × Served limits seat old mid x × Serves limits seat mid new served

@@ -8,13 +8,13 @@ use Rattle.list_machine.specs.declared.event.Limits.{Limits}
 use Rattle.list_machine.specs.Run.{History}
 use Rattle.es_rest.specs.declared.connection.ConnEnd.{ConnEnd}
 use Rattle.es_rest.specs.declared.connection.ConnEnd.TheVariants as end
-use Rattle.es_rest.specs.declared.connection.Session.{Session}
 use Rattle.reply_json.specs.declared.fault.RestFault.TheVariants as fault
 use Rattle.reply_json.specs.declared.response.Response.{Response}
 use Rattle.reply_json.specs.declared.response.Response.TheVariants.{Fault}
 use Rattle.reply_json.specs.Replies.{text}
 use Rattle.es_rest.specs.Headline.{last_words}
-use Rattle.es_rest.specs.Talk.{Exchange, Responds, Served, newest_after}
+use Rattle.es_rest.specs.Moments.{clock_answer}
+use Rattle.es_rest.specs.Talk.{Exchange, Responds, Served}
 
 -- no text stands for the one that memory is wanting
 abbrev pub words_text : Option (List ℕ) → Bool → List ℕ
@@ -22,10 +22,9 @@ words_text (Some bytes) last = bytes
 words_text None last = text (Fault fault.NoMemory) last
 
 -- a response was made, and its text
-pub record Answered (limits : Limits) (seat moment newest after : ℕ) (old new : History) (request : Request) (words : List ℕ) : Type 0 where
+pub record Answered (limits : Limits) (seat moment : ℕ) (old new : History) (request : Request) (words : List ℕ) : Type 0 where
   pub response : Response
-  pub responds : Responds limits seat moment newest old new request response
-  pub tells : after ≡ newest_after newest response
+  pub responds : Responds limits seat moment old new request response
   pub words_are : words ≡ text response request.last
 
 -- all of a text was written, or some first bytes
@@ -33,18 +32,21 @@ abbrev pub WroteBy : {E : Type 0} → Option (List ℕ) → Option (List ℕ) �
 WroteBy before after words (Ok done) = Wrote before after words
 WroteBy before after words (Err e) = WroteSome before after words
 
--- the clock's last answer goes on, and the moment is it or later
-abbrev pub LastGoesOn : Option ℕ → Option ℕ → ℕ → ℕ → Type 0
-LastGoesOn None after old new = Unit {0}
-LastGoesOn (Some last) after old new = (after ≡ Some last) × (new ≡ max old last)
+-- the clock answered a request, and the moment is that or later
+abbrev pub LastGoesOn : Option ℕ → Option ℕ → Request → ℕ → ℕ → Type 0
+LastGoesOn None after request old new = Unit {0}
+LastGoesOn (Some last) after request old new = (after ≡ Some (clock_answer last request)) × (new ≡ max old (clock_answer last request))
 
--- a request was served
-pub record Exchanged (limits : Limits) (seat : ℕ) (old new : Session) (front after : History) (request : Request) (written now : Option (List ℕ)) {E : Type 0} (result : Result (Unit {0}) E) : Type 0 where
+-- the clock gave one answer: the moment is it or later, and so is the clock's greatest
+abbrev pub ClockAnswers : ℕ → ℕ → ℕ → ℕ → Type 0
+ClockAnswers old new greatest great = (answer : ℕ) × (new ≡ max old answer) × (great ≡ max greatest answer)
+
+-- a request was served at a moment
+pub record Exchanged (limits : Limits) (seat moment : ℕ) (front after : History) (request : Request) (written now : Option (List ℕ)) {E : Type 0} (result : Result (Unit {0}) E) : Type 0 where
   pub x : Exchange
   pub request_is : x.request ≡ request
-  pub moment_is : x.moment ≡ new.moment
-  pub served : Served limits seat old.newest front after x
-  pub newest_is : new.newest ≡ newest_after old.newest x.response
+  pub moment_is : x.moment ≡ moment
+  pub served : Served limits seat front after x
   pub wrote : WroteBy written now (text x.response request.last) result
 
 -- what an end of the wire comes to; want of memory may meet its words too

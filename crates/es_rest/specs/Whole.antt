@@ -10,15 +10,15 @@ use Rattle.es_rest.specs.declared.connection.ConnEnd.TheVariants as end
 use Rattle.es_rest.specs.Headline.{Headline, requests_of}
 
 -- all of these requests of a connection were answered
-pub record ServesAll (limits : Limits) (seat : ℕ) (old new : History) (left after written now : Option (List ℕ)) (last : Option ℕ) (greatest : ℕ) (requests : List Request) : Type 0 where
-  pub headline : Headline limits seat old new left after written now last greatest end.Done
+pub record ServesAll (limits : Limits) (seat : ℕ) (old new : History) (left after written now : Option (List ℕ)) (last : Option ℕ) (begun greatest : ℕ) (requests : List Request) : Type 0 where
+  pub headline : Headline limits seat old new left after written now last begun greatest end.Done
   pub all : requests_of headline.served ≡ requests
 
 -- Where what is left of a connection is these requests and no more, and no fault was counted, all are answered, or
 -- memory was wanted.
-abbrev pub ServesWhole : Limits → ℕ → History → History → Option (List ℕ) → Option (List ℕ) → Option (List ℕ) → Option (List ℕ) → Option ℕ → ℕ → ℕ → ℕ → ℕ → ℕ → ConnEnd → Type 0
-ServesWhole limits seat old new None after written now last greatest reads reads_after writes writes_after ended = Unit {0}
-ServesWhole limits seat old new (Some bytes) after written now last greatest reads reads_after writes writes_after ended =
+abbrev pub ServesWhole : Limits → ℕ → History → History → Option (List ℕ) → Option (List ℕ) → Option (List ℕ) → Option (List ℕ) → Option ℕ → ℕ → ℕ → ℕ → ℕ → ℕ → ℕ → ConnEnd → Type 0
+ServesWhole limits seat old new None after written now last begun greatest reads reads_after writes writes_after ended = Unit {0}
+ServesWhole limits seat old new (Some bytes) after written now last begun greatest reads reads_after writes writes_after ended =
     (requests : List Request) → Spells bytes requests [] → length bytes ≤ connection_limit
     → (Rose reads reads_after → ⊥) → (Rose writes writes_after → ⊥)
-    → (ended ≡ end.NoMemory) ⊎ ((ended ≡ end.Done) × ServesAll limits seat old new (Some bytes) after written now last greatest requests)
+    → (ended ≡ end.NoMemory) ⊎ ((ended ≡ end.Done) × ServesAll limits seat old new (Some bytes) after written now last begun greatest requests)

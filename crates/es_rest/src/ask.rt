@@ -1,14 +1,17 @@
-ghost use Rattle.std.specs.Prelude.{◌≡◌, [], None, Some, IfOk, option_map};
+ghost use Rattle.std.specs.Prelude.{◌≡◌, None, Some, IfOk, option_map};
 ghost use Rattle.doc_json.specs.Documents.{doc_of};
 ghost use Rattle.doc_json.specs.Indexes.{index_of};
 ghost use Rattle.es_rest.specs.Items.{body_fault, items_from, named};
 ghost use Rattle.es_rest.specs.Paths.{all_routes, params_of, part, place_of, refresh_in};
-ghost use Rattle.es_rest.specs.Route.{Answers, AsksSound, asked_at, asked_at_index, asked_of, bulk_asked, check_built, create_asked, create_of, doc_asked, gets_or_posts, id_in, index_bulk_asked, index_in, is_blank, is_method, is_opening, is_own_word, limit_told, named_index, no_body, opening_asked, put_asked, put_of, puts_or_posts, refresh_asked, remove_asked, remove_of, some_body};
+ghost use Rattle.es_rest.specs.Route.{Answers, AsksSound, asked_at, asked_at_index, asked_of, behind_moment, bulk_asked, check_built, create_asked, create_of, doc_asked, gets_or_posts, id_in, index_bulk_asked, index_in, is_blank, is_method, is_own_word, limit_told, named_index, no_body, put_asked, put_of, puts_or_posts, refresh_asked, remove_asked, remove_of, some_body};
 
 use crate::items::{body_fault, check_items, named};
+use crate::moment::is_unreadable;
 use crate::params::{has_param, params_of, refresh_in};
 use crate::paths::{Place, decoded, part, place_of, routes};
+use crate::pit::{closing_asked, opening_asked};
 use crate::search::{check_search, search_asked};
+use ctx_ids::ContextId;
 use doc_json::{BodyFault, IndexSpec, read_doc, read_index};
 use es_types::{Bytes, Copied, Doc, DocId, Fail, IndexName, KeepAlive, LimitName, Text};
 use http_wire::Request;
@@ -48,9 +51,15 @@ pub enum Ask {
         index: IndexName,
         keep: KeepAlive,
     },
+    /// `number` is 0 for an id of another kind.
+    ClosePit {
+        number: u64,
+    },
+    /// `sent` is the id as it was sent; where that is of another kind of context, the number in `target` is 0.
     Search {
         target: Target,
         request: SearchRequest,
+        sent: Option<ContextId>,
     },
 }
 
@@ -100,15 +109,16 @@ fn id_in(alloc: Global, request: &Request) -> Result<Text, RestFault>
     decoded(alloc, "id", path_part(request, 3))
 }
 
-// Whether the query asks for a refresh, where it may.
-fn refresh_of(alloc: Global, taken: bool, request: &Request) -> Result<bool, RestFault>
+/// Whether the query asks for a refresh, where it may.
+pub fn refresh_of(alloc: Global, taken: bool, request: &Request) -> Result<bool, RestFault>
     ensures { Answers result (refresh_in taken None (params_of request.now.query)) }
 {
     let params = params_of(alloc, request.query.as_slice())?;
     refresh_in(alloc, taken, None, &params)
 }
 
-fn is_blank(bytes: &[u8]) -> bool
+/// Whether the bytes are nothing but white space.
+pub fn is_blank(bytes: &[u8]) -> bool
     ensures { result ≡ is_blank bytes.now }
 {
     bytes.iter().all(|b| *b == b' ' || *b == b'\t' || *b == b'\n' || *b == b'\r')
@@ -135,7 +145,7 @@ fn some_body(request: &Request) -> Result<bool, RestFault>
     }
 }
 
-fn named_index(index: Text) -> Result<IndexName, RestFault>
+pub fn named_index(index: Text) -> Result<IndexName, RestFault>
     ensures { result ≡ named_index index index }
 {
     match IndexName::make(index) {
@@ -144,8 +154,8 @@ fn named_index(index: Text) -> Result<IndexName, RestFault>
     }
 }
 
-// A limit that a body breaks is told where the index's name is one.
-fn limit_told(index: Text, name: LimitName) -> Result<Ask, RestFault>
+/// A limit that is broken is told where the index's name is one.
+pub fn limit_told(index: Text, name: LimitName) -> Result<Ask, RestFault>
     ensures { result ≡ limit_told index name }
 {
     match IndexName::make(index) {
@@ -266,28 +276,6 @@ fn refresh_asked(alloc: Global, request: &Request) -> Result<Ask, RestFault>
     Ok(Ask::Refresh { index })
 }
 
-fn is_opening(request: &Request) -> bool
-    ensures { result ≡ is_opening request.now }
-{
-    is_method("POST", request)
-        && request.query.as_slice() == b"keep_alive=1m".as_slice()
-        && request.body.as_slice().is_empty()
-}
-
-fn opening_asked(alloc: Global, request: &Request) -> Result<Ask, RestFault>
-    ensures answer { Answers result (opening_asked request.now) }
-    ensures sound { IfOk result AsksSound }
-{
-    if !is_opening(request) {
-        return Err(RestFault::NotBuilt);
-    }
-    let index = index_in(alloc, request)?;
-    Ok(Ask::OpenPit {
-        index: named_index(index)?,
-        keep: KeepAlive::minute(),
-    })
-}
-
 // A parameter that isn't built yet, on a route that takes it.
 fn check_built(alloc: Global, taken: bool, request: &Request) -> Result<(), RestFault>
     ensures { Answers result (check_built taken request.now) }
@@ -315,8 +303,8 @@ fn doc_asked(alloc: Global, request: &Request) -> Result<Ask, RestFault>
 }
 
 // What a request of a route that begins with an index asks for.
-fn indexed(alloc: Global, newest: u64, request: &Request, place: Place) -> Result<Ask, RestFault>
-    ensures answer { Answers result (asked_at_index newest request.now place) }
+fn indexed(alloc: Global, request: &Request, place: Place) -> Result<Ask, RestFault>
+    ensures answer { Answers result (asked_at_index request.now place) }
     ensures sound { IfOk result AsksSound }
 {
     match place {
@@ -335,20 +323,18 @@ fn indexed(alloc: Global, newest: u64, request: &Request, place: Place) -> Resul
         }
         Place::IndexSearch => {
             check_search(alloc, true, request)?;
-            search_asked(alloc, true, newest, request)
+            search_asked(alloc, true, request)
         }
-        Place::OpenPit => opening_asked(alloc, request),
+        Place::OpenPit => {
+            check_built(alloc, is_method("POST", request), request)?;
+            opening_asked(alloc, request)
+        }
         _ => Err(RestFault::NotBuilt),
     }
 }
 
-fn asked_at(
-    alloc: Global,
-    newest: u64,
-    request: &Request,
-    place: Option<Place>,
-) -> Result<Ask, RestFault>
-    ensures answer { Answers result (asked_at newest request.now place) }
+fn asked_at(alloc: Global, request: &Request, place: Option<Place>) -> Result<Ask, RestFault>
+    ensures answer { Answers result (asked_at request.now place) }
     ensures sound { IfOk result AsksSound }
 {
     match place {
@@ -359,42 +345,53 @@ fn asked_at(
         }
         Some(Place::Search) => {
             check_search(alloc, false, request)?;
-            search_asked(alloc, false, newest, request)
+            search_asked(alloc, false, request)
+        }
+        Some(Place::ClosePit) => {
+            check_built(alloc, is_method("DELETE", request), request)?;
+            closing_asked(alloc, request)
         }
         Some(place) => {
             if is_own_word(request) {
                 return Err(RestFault::NotBuilt);
             }
-            indexed(alloc, newest, request, place)
+            indexed(alloc, request, place)
         }
     }
 }
 
-/// What a request asks for by these routes, or the first refusal that it meets.
-pub fn routed(
-    alloc: Global,
-    router: &Router<Place>,
-    newest: u64,
-    request: &Request,
-) -> Result<Ask, RestFault>
-    requires { router.now ≡ all_routes }
-    ensures answer { Answers result (asked_of newest request.now) }
+// All limits, ids and events come behind a moment that isn't readable.
+fn behind_moment(asked: Result<Ask, RestFault>) -> Result<Ask, RestFault>
+    ensures answer { result ≡ behind_moment asked }
     ensures sound { IfOk result AsksSound }
 {
-    asked_at(
-        alloc,
-        newest,
-        request,
-        place_of(router, request.path.as_str()),
-    )
+    match asked {
+        Ok(_) | Err(RestFault::Limit(_)) | Err(RestFault::BadId) => {
+            Err(RestFault::Limit(LimitName::Moment))
+        }
+        Err(fault) => Err(fault),
+    }
 }
 
-/// What a request asks for, or the first refusal that it meets. Points in time up to the number `newest` were opened.
-/// It makes the routes anew; a connection makes them once.
-pub fn route(alloc: Global, newest: u64, request: &Request) -> Result<Ask, RestFault>
-    ensures answer { Answers result (asked_of newest request.now) }
+/// What a request asks for by these routes, or the first refusal that it meets.
+pub fn routed(alloc: Global, router: &Router<Place>, request: &Request) -> Result<Ask, RestFault>
+    requires { router.now ≡ all_routes }
+    ensures answer { Answers result (asked_of request.now) }
+    ensures sound { IfOk result AsksSound }
+{
+    let asked = asked_at(alloc, request, place_of(router, request.path.as_str()));
+    if is_unreadable(request) {
+        behind_moment(asked)
+    } else {
+        asked
+    }
+}
+
+/// What a request asks for, or the first refusal that it meets. It makes the routes anew; a connection makes them once.
+pub fn route(alloc: Global, request: &Request) -> Result<Ask, RestFault>
+    ensures answer { Answers result (asked_of request.now) }
     ensures sound { IfOk result AsksSound }
 {
     let router = routes(alloc)?;
-    routed(alloc, &router, newest, request)
+    routed(alloc, &router, request)
 }

@@ -9,15 +9,15 @@ ghost use Rattle.es_rest.specs.Headline.{Headline};
 ghost use Rattle.es_rest.specs.Paths.{all_routes};
 ghost use Rattle.es_rest.specs.Whole.{ServesWhole};
 ghost use Rattle.reply_json.specs.Replies.{text};
-ghost use Rattle.es_rest.specs.Talk.{newest_after};
-ghost use Rattle.es_rest.specs.Turns.{Answered, Closed, Exchanged, LastGoesOn, WroteBy, words_text};
+ghost use Rattle.es_rest.specs.Turns.{Answered, ClockAnswers, Closed, Exchanged, LastGoesOn, WroteBy, words_text};
 
 use crate::converse::respond;
+use crate::moment::told_moment;
 use crate::paths::{Place, routes};
 use es_outside::{Clock, Link};
 use es_types::{Bytes, Moment, NoMemory};
 use http_wire::{Buf, Request, WireEnd, WriteFault, next_request, write_all};
-use list_machine::{Reply, Service, pages_in_turn};
+use list_machine::{Service, pages_in_turn};
 use matchit::Router;
 use reply_json::{Response, RestFault, no_memory_text, print};
 use std::alloc::Global;
@@ -39,69 +39,33 @@ pub enum ConnEnd {
     TooMuch,
 }
 
-// What a connection knows: the newest point in time of which it told, and its moment.
-#[derive(Clone, Copy)]
-struct Session {
-    newest: u64,
-    moment: Moment,
-}
-
-fn newest_after(newest: u64, response: &Response) -> u64
-    ensures { result ≡ newest_after newest response.now }
+// The text of a response, unless memory is wanting for it.
+fn words_of(alloc: Global, response: Response, last: bool) -> Option<Bytes>
+    ensures { IfSome result (λ bytes. bytes ≡ text response last) }
 {
-    match response {
-        Response::Json {
-            status: _,
-            reply: Reply::Opened { number },
-            route: _,
-        } => newest.max(*number),
-        _ => newest,
-    }
+    print(alloc, &response, last).ok()
 }
 
-// What is written for a request, and the newest point in time that it tells of. No text is the one that memory
-// is wanting.
-#[derive(Drop)]
-struct Words {
-    newest: u64,
-    text: Option<Bytes>,
-}
-
-// The text of a response, and whether it could be made.
-fn words_of(alloc: Global, newest: u64, response: Response, last: bool) -> Words
-    ensures said { IfSome result.text (λ bytes. (bytes ≡ text response last) × (result.newest ≡ newest_after newest response)) }
-    ensures wanting { IfNone result.text (result.newest ≡ newest) }
-{
-    match print(alloc, &response, last) {
-        Ok(bytes) => Words {
-            newest: newest_after(newest, &response),
-            text: Some(bytes),
-        },
-        Err(_) => Words { newest, text: None },
-    }
-}
-
-// Answers a request, with the text of its response.
+// Answers a request, with the text of its response. No text is the one that memory is wanting.
 fn answer<V: Service>(
     alloc: Global,
     service: &mut V,
     router: &Router<Place>,
     request: &Request,
-    newest: u64,
     moment: Moment,
-) -> Words
+) -> Option<Bytes>
     requires { router.now ≡ all_routes }
-    ensures answered { Answered (V.limits service.old) (V.seat service.old) moment newest result.newest (V.front service.old) (V.front service.new)
-        request.now (words_text result.text request.now.last) }
+    ensures answered { Answered (V.limits service.old) (V.seat service.old) moment (V.front service.old) (V.front service.new)
+        request.now (words_text result request.now.last) }
     ensures seat { V.seat service.new ≡ V.seat service.old }
     ensures limits { V.limits service.new ≡ V.limits service.old }
 {
-    let response = respond(alloc, service, router, request, newest, moment);
-    words_of(alloc, newest, response, request.last)
+    let response = respond(alloc, service, router, request, moment);
+    words_of(alloc, response, request.last)
 }
 
-fn write_words<L: Link>(link: &mut L, words: &Words, last: bool) -> Result<(), WriteFault>
-    ensures wrote { WroteBy (L.written link.old) (L.written link.new) (words_text words.now.text last) result }
+fn write_words<L: Link>(link: &mut L, words: &Option<Bytes>, last: bool) -> Result<(), WriteFault>
+    ensures wrote { WroteBy (L.written link.old) (L.written link.new) (words_text words.now last) result }
     ensures fault { OnErr result (Rose (L.write_faults link.old) (L.write_faults link.new)) }
     ensures uncounted { OnOk result (L.write_faults link.new ≡ L.write_faults link.old) }
     ensures count { L.write_faults link.old ≤ L.write_faults link.new }
@@ -109,7 +73,7 @@ fn write_words<L: Link>(link: &mut L, words: &Words, last: bool) -> Result<(), W
     ensures read_faults { L.read_faults link.new ≡ L.read_faults link.old }
     ensures held { L.held link.new ≡ L.held link.old }
 {
-    match &words.text {
+    match words {
         Some(bytes) => write_all(link, bytes.as_slice()),
         None => write_all(link, no_memory_text(last)),
     }
@@ -129,7 +93,7 @@ fn tidy_up<V: Service>(service: &mut V, moment: Moment, written: bool)
     let _ = service.tidy(moment);
 }
 
-// Serves one request.
+// Serves one request. The moment that it hands in counts where it is refused, too.
 fn exchange<V: Service, L: Link, C: Clock>(
     alloc: Global,
     service: &mut V,
@@ -137,17 +101,16 @@ fn exchange<V: Service, L: Link, C: Clock>(
     clock: &mut C,
     router: &Router<Place>,
     request: &Request,
-    session: &mut Session,
+    moment: &mut Moment,
 ) -> Result<(), WriteFault>
     requires { router.now ≡ all_routes }
-    ensures exchanged { Exchanged (V.limits service.old) (V.seat service.old) session.old session.new (V.front service.old) (V.front service.new)
+    ensures exchanged { Exchanged (V.limits service.old) (V.seat service.old) moment.new (V.front service.old) (V.front service.new)
         request.now (L.written link.old) (L.written link.new) result }
     ensures seat { V.seat service.new ≡ V.seat service.old }
     ensures limits { V.limits service.new ≡ V.limits service.old }
-    ensures later { session.old.moment ≤ session.new.moment }
-    ensures bounded { session.new.moment ≤ max session.old.moment (C.greatest clock.new) }
-    ensures greatest { C.greatest clock.old ≤ C.greatest clock.new }
-    ensures last { LastGoesOn (C.last clock.old) (C.last clock.new) session.old.moment session.new.moment }
+    ensures later { moment.old ≤ moment.new }
+    ensures answered { ClockAnswers moment.old moment.new (C.greatest clock.old) (C.greatest clock.new) }
+    ensures last { LastGoesOn (C.last clock.old) (C.last clock.new) request.now moment.old moment.new }
     ensures fault { OnErr result (Rose (L.write_faults link.old) (L.write_faults link.new)) }
     ensures uncounted { OnOk result (L.write_faults link.new ≡ L.write_faults link.old) }
     ensures count { L.write_faults link.old ≤ L.write_faults link.new }
@@ -155,14 +118,10 @@ fn exchange<V: Service, L: Link, C: Clock>(
     ensures read_faults { L.read_faults link.new ≡ L.read_faults link.old }
     ensures held { L.held link.new ≡ L.held link.old }
 {
-    let moment = session.moment.later(clock.now(None));
-    let words = answer(alloc, service, router, request, session.newest, moment);
-    *session = Session {
-        newest: words.newest,
-        moment,
-    };
+    *moment = moment.later(clock.now(told_moment(request)));
+    let words = answer(alloc, service, router, request, *moment);
     let written = write_words(link, &words, request.last);
-    tidy_up(service, moment, written.is_ok());
+    tidy_up(service, *moment, written.is_ok());
     written
 }
 
@@ -223,7 +182,7 @@ fn serve_requests<V: Service, L: Link, C: Clock>(
     clock: &mut C,
 ) -> ConnEnd
     ensures headline { Headline (V.limits service.old) (V.seat service.old) (V.front service.old) (V.front service.new)
-        (L.left link.old) (L.left link.new) (L.written link.old) (L.written link.new) (C.last clock.old) (C.greatest clock.new) result }
+        (L.left link.old) (L.left link.new) (L.written link.old) (L.written link.new) (C.last clock.old) (C.greatest clock.old) (C.greatest clock.new) result }
     ensures read_fault { result ≡ ConnEnd.ReadFault → Rose (L.read_faults link.old) (L.read_faults link.new) }
     ensures write_fault { result ≡ ConnEnd.WriteFault → Rose (L.write_faults link.old) (L.write_faults link.new) }
     ensures read_reported { L.read_faults link.old < L.read_faults link.new → result ≡ ConnEnd.ReadFault }
@@ -237,14 +196,11 @@ fn serve_requests<V: Service, L: Link, C: Clock>(
         Ok(parts) => parts,
         Err(_) => return close(alloc, link, WireEnd::NoMemory),
     };
-    let mut session = Session {
-        newest: 0,
-        moment: Moment::zero(),
-    };
+    let mut moment = Moment::zero();
     'requests: loop {
         match next_request(alloc, link, &mut buf) {
             Ok(Some(request)) => {
-                match exchange(alloc, service, link, clock, &router, &request, &mut session) {
+                match exchange(alloc, service, link, clock, &router, &request, &mut moment) {
                     Ok(()) => {}
                     Err(_) => return ConnEnd::WriteFault,
                 }
@@ -266,10 +222,10 @@ pub fn serve_connection<V: Service, L: Link, C: Clock>(
     // Each response is what a plain machine of one thread over lists answers at that request's place in one
     // history; so pages taken in turn are a prefix of the sorted matching documents, and all of them at the end.
     ensures headline { Headline (V.limits service.old) (V.seat service.old) (V.front service.old) (V.front service.new)
-        (L.left link.old) (L.left link.new) (L.written link.old) (L.written link.new) (C.last clock.old) (C.greatest clock.new) result }
+        (L.left link.old) (L.left link.new) (L.written link.old) (L.written link.new) (C.last clock.old) (C.greatest clock.old) (C.greatest clock.new) result }
     // What is left, where it is whole requests, is answered wholly.
     ensures complete { ServesWhole (V.limits service.old) (V.seat service.old) (V.front service.old) (V.front service.new)
-        (L.left link.old) (L.left link.new) (L.written link.old) (L.written link.new) (C.last clock.old) (C.greatest clock.new)
+        (L.left link.old) (L.left link.new) (L.written link.old) (L.written link.new) (C.last clock.old) (C.greatest clock.old) (C.greatest clock.new)
         (L.read_faults link.old) (L.read_faults link.new) (L.write_faults link.old) (L.write_faults link.new) result }
     // A fault is answered only where the count rose, and wherever it rose.
     ensures read_fault { result ≡ ConnEnd.ReadFault → Rose (L.read_faults link.old) (L.read_faults link.new) }

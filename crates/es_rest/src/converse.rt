@@ -1,23 +1,25 @@
 ghost use Rattle.std.specs.Prelude.{◌≡◌, [], ◌∷◌, IfOk, MatchResult, if◌then◌else◌};
+ghost use Rattle.list_machine.specs.declared.event.Event.TheVariants as events;
+ghost use Rattle.list_machine.specs.declared.event.Which.TheVariants as which;
 ghost use Rattle.list_machine.specs.Serving.{IsAskable};
 ghost use Rattle.es_rest.specs.declared.ask.Ask.{Ask};
 ghost use Rattle.es_rest.specs.declared.ask.Ask.TheVariants as asks;
 ghost use Rattle.es_rest.specs.Led.{IsLabel};
 ghost use Rattle.es_rest.specs.Paths.{all_routes};
 ghost use Rattle.es_rest.specs.Route.{AsksSound};
-ghost use Rattle.es_rest.specs.Scripts.{target_name};
-ghost use Rattle.es_rest.specs.Talk.{Conversation, Interrupted, Responds, search_route, settled, status_of};
+ghost use Rattle.es_rest.specs.Talk.{Conversation, Interrupted, Responds, search_name, search_route, sent_text, settled, status_of};
 
 use crate::ask::{Ask, routed};
 use crate::bulk::bulk;
 use crate::paths::Place;
 use crate::refresh::{Refreshed, refresh_all, refresh_index, refusal};
+use ctx_ids::ContextId;
 use doc_json::IndexSpec;
-use es_types::{Copied, DocId, IndexName, KeepAlive, Moment, NoMemory, Text};
+use es_types::{Copied, DocId, IndexName, Items, KeepAlive, Moment, NoMemory, Text};
 use http_wire::Request;
-use list_machine::{Change, Event, Reply, SearchRequest, Service, Target};
+use list_machine::{Change, Event, Reply, SearchRequest, Service, Target, Which};
 use matchit::Router;
-use reply_json::{Response, RestFault, RouteName, id_text, wrote_status};
+use reply_json::{Response, RestFault, RouteName, closed_status, wrote_status};
 use std::alloc::Global;
 
 // By what a request of one event is answered: the name that its refusal prints, its route, and the index that it
@@ -45,6 +47,7 @@ fn status_of(reply: &Reply) -> u16
 {
     match reply {
         Reply::Wrote { result, seq: _ } => wrote_status(*result),
+        Reply::Closed { freed } => closed_status(*freed),
         _ => 200,
     }
 }
@@ -204,8 +207,49 @@ fn open_pit<V: Service>(
     )
 }
 
-fn search_label(alloc: Global, target: &Target) -> Result<Label, NoMemory>
-    ensures name { IfOk result (λ label. label.name ≡ target_name target.now) }
+fn close_event(alloc: Global, number: u64) -> Result<Event, NoMemory>
+    ensures { IfOk result (λ event. event ≡ events.Close (which.Pits (number ∷ []))) }
+{
+    let mut numbers = Vec::new(alloc);
+    numbers.push(number)?;
+    Ok(Event::Close {
+        which: Which::Pits(Items::of(numbers)),
+    })
+}
+
+fn close_pit<V: Service>(
+    alloc: Global,
+    service: &mut V,
+    number: u64,
+    moment: Moment,
+) -> Result<Response, NoMemory>
+    ensures talk { MatchResult result
+        (Conversation (V.limits service.old) (V.seat service.old) moment (asks.ClosePit number) (V.front service.old) (V.front service.new))
+        (λ _. Interrupted (V.limits service.old) (V.seat service.old) moment (asks.ClosePit number) (V.front service.old) (V.front service.new)) }
+    ensures seat { V.seat service.new ≡ V.seat service.old }
+    ensures limits { V.limits service.new ≡ V.limits service.old }
+{
+    let label = Label {
+        name: Text::of(String::new(alloc)),
+        route: RouteName::ClosePit,
+        refreshed: Vec::new(alloc),
+    };
+    let event = close_event(alloc, number)?;
+    ask_one(alloc, service, event, label, moment)
+}
+
+// The text of an id as it was sent.
+fn sent_text(alloc: Global, sent: Option<ContextId>) -> Result<Text, NoMemory>
+    ensures { IfOk result (λ text. text ≡ sent_text sent) }
+{
+    match sent {
+        Some(id) => id.to_text(alloc),
+        None => Ok(Text::of(String::new(alloc))),
+    }
+}
+
+fn search_label(alloc: Global, target: &Target, sent: Option<ContextId>) -> Result<Label, NoMemory>
+    ensures name { IfOk result (λ label. label.name ≡ search_name target.now sent) }
     ensures route { IfOk result (λ label. label.route ≡ search_route target.now) }
     ensures refreshed { IfOk result (λ label. label.refreshed.items ≡ []) }
 {
@@ -216,8 +260,8 @@ fn search_label(alloc: Global, target: &Target) -> Result<Label, NoMemory>
             route: RouteName::Search { pit: None },
             refreshed,
         }),
-        Target::Pit { number } => Ok(Label {
-            name: id_text(alloc, *number)?,
+        Target::Pit { number, keep: _ } => Ok(Label {
+            name: sent_text(alloc, sent)?,
             route: RouteName::Search { pit: Some(*number) },
             refreshed,
         }),
@@ -229,16 +273,17 @@ fn search<V: Service>(
     service: &mut V,
     target: Target,
     request: SearchRequest,
+    sent: Option<ContextId>,
     moment: Moment,
 ) -> Result<Response, NoMemory>
-    requires { AsksSound (asks.Search target request) }
+    requires { AsksSound (asks.Search target request sent) }
     ensures talk { MatchResult result
-        (Conversation (V.limits service.old) (V.seat service.old) moment (asks.Search target request) (V.front service.old) (V.front service.new))
-        (λ _. Interrupted (V.limits service.old) (V.seat service.old) moment (asks.Search target request) (V.front service.old) (V.front service.new)) }
+        (Conversation (V.limits service.old) (V.seat service.old) moment (asks.Search target request sent) (V.front service.old) (V.front service.new))
+        (λ _. Interrupted (V.limits service.old) (V.seat service.old) moment (asks.Search target request sent) (V.front service.old) (V.front service.new)) }
     ensures seat { V.seat service.new ≡ V.seat service.old }
     ensures limits { V.limits service.new ≡ V.limits service.old }
 {
-    let label = search_label(alloc, &target)?;
+    let label = search_label(alloc, &target, sent)?;
     ask_one(
         alloc,
         service,
@@ -298,26 +343,30 @@ fn converse<V: Service>(
         } => bulk(alloc, service, index, body, refresh, moment),
         Ask::Refresh { index } => refresh_route(alloc, service, &index, moment),
         Ask::OpenPit { index, keep } => open_pit(alloc, service, index, keep, moment),
-        Ask::Search { target, request } => search(alloc, service, target, request, moment),
+        Ask::ClosePit { number } => close_pit(alloc, service, number, moment),
+        Ask::Search {
+            target,
+            request,
+            sent,
+        } => search(alloc, service, target, request, sent, moment),
     }
 }
 
 /// Answers a request: it asks the service for the events of the request, all at the moment. Want of memory is a
-/// response too. The routes are all that are built. Points in time up to the number `newest` were opened.
+/// response too. The routes are all that are built.
 pub fn respond<V: Service>(
     alloc: Global,
     service: &mut V,
     router: &Router<Place>,
     request: &Request,
-    newest: u64,
     moment: Moment,
 ) -> Response
     requires { router.now ≡ all_routes }
-    ensures responds { Responds (V.limits service.old) (V.seat service.old) moment newest (V.front service.old) (V.front service.new) request.now result }
+    ensures responds { Responds (V.limits service.old) (V.seat service.old) moment (V.front service.old) (V.front service.new) request.now result }
     ensures seat { V.seat service.new ≡ V.seat service.old }
     ensures limits { V.limits service.new ≡ V.limits service.old }
 {
-    match routed(alloc, router, newest, request) {
+    match routed(alloc, router, request) {
         Ok(ask) => match converse(alloc, service, ask, moment) {
             Ok(response) => response,
             Err(_) => Response::Fault(RestFault::NoMemory),

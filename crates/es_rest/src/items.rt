@@ -17,9 +17,9 @@ pub fn body_fault(fault: BodyFault) -> RestFault
     ensures { result ≡ body_fault fault }
 {
     match fault {
-        BodyFault::NotBuilt => RestFault::NotBuilt,
         BodyFault::NotJson | BodyFault::Shape => RestFault::BadBody,
         BodyFault::Limit(name) => RestFault::Limit(name),
+        BodyFault::BadId => RestFault::BadId,
     }
 }
 

@@ -7,8 +7,10 @@ mod bulk;
 mod connection;
 mod converse;
 mod items;
+mod moment;
 mod params;
 mod paths;
+mod pit;
 mod refresh;
 mod search;
 

@@ -1,11 +1,12 @@
 ghost use Rattle.std.specs.Prelude.{◌≡◌, IfOk};
-ghost use Rattle.es_rest.specs.Paths.{are_digits, batch_in, batch_value, has_param, params_of, refresh_in, refresh_value, unless_given};
+ghost use Rattle.es_rest.specs.Paths.{are_digits, batch_in, batch_value, has_param, keep_in, params_of, refresh_in, refresh_value, unless_given};
 ghost use Rattle.es_rest.specs.Route.{Answers};
 
 use doc_json::all_digits;
-use es_types::{Copied, NoMemory, Text};
+use es_types::{Copied, KeepAlive, NoMemory, Text};
 use form_urlencoded::parse;
 use reply_json::RestFault;
+use search_json::context_keep;
 use std::alloc::Global;
 
 /// How many shards make a batch, where a search doesn't say it.
@@ -112,6 +113,30 @@ pub fn batch_in(alloc: Global, given: Option<u32>, params: &[Param]) -> Result<u
         if let Some(batch) = batch_value(param.value.as_str()) {
             return batch_in(alloc, Some(batch), rest);
         }
+    }
+    Err(RestFault::BadParam(param.name.copy(alloc)?))
+}
+
+/// How long the parameters say that a point in time is kept, where it may be kept so long: `keep_alive` is needed, once, and not if
+/// it was `given` before. The first that isn't taken is a fault, and one that is wanting comes behind all.
+pub fn keep_in(
+    alloc: Global,
+    given: Option<Option<KeepAlive>>,
+    params: &[Param],
+) -> Result<Option<KeepAlive>, RestFault>
+    ensures { Answers result (keep_in given params.now) }
+{
+    let [param, rest @ ..] = params else {
+        return match given {
+            Some(keep) => Ok(keep),
+            None => {
+                let name = String::from_str(alloc, "keep_alive")?;
+                Err(RestFault::BadParam(Text::of(name)))
+            }
+        };
+    };
+    if given.is_none() && param.name.as_str() == "keep_alive" {
+        return keep_in(alloc, Some(context_keep(param.value.as_str())), rest);
     }
     Err(RestFault::BadParam(param.name.copy(alloc)?))
 }

@@ -23,6 +23,8 @@ pub enum Place {
     Refresh,
     /// `/{index}/_pit`
     OpenPit,
+    /// `/_pit`
+    ClosePit,
     /// `/_search`
     Search,
     /// `/{index}/_search`
@@ -41,6 +43,7 @@ pub fn routes(alloc: Global) -> Result<Router<Place>, NoMemory>
     add(&mut router, "/{index}/_bulk", Place::IndexBulk)?;
     add(&mut router, "/{index}/_refresh", Place::Refresh)?;
     add(&mut router, "/{index}/_pit", Place::OpenPit)?;
+    add(&mut router, "/_pit", Place::ClosePit)?;
     add(&mut router, "/_search", Place::Search)?;
     add(&mut router, "/{index}/_search", Place::IndexSearch)?;
     Ok(router)

@@ -1,17 +1,18 @@
 ghost use Rattle.std.specs.Prelude.{◌≡◌, ◌≤◌, false, IfOk};
 ghost use Rattle.search_json.specs.Searches.{search_of};
-ghost use Rattle.es_rest.specs.Route.{Answers, AreWithinLimits, AsksSound, batch_asked, batch_used, check_form, check_search, has_unbuilt, index_told, index_where, is_batch, limits_told, search_asked, search_by, search_told, target_asked};
+ghost use Rattle.es_rest.specs.Route.{Answers, AreWithinLimits, AsksSound, batch_asked, batch_used, check_search, has_unbuilt, index_told, index_where, is_batch, limits_told, search_asked, search_told, target_asked};
 ghost use Rattle.list_machine.specs.Run.{IsWithinLimits};
 
 use crate::ask::{Ask, gets_or_posts, index_in};
 use crate::items::body_fault;
 use crate::params::{Param, USUAL_BATCH, batch_in, has_param, params_of};
+use crate::pit::pit_number;
 use doc_json::BodyFault;
 use es_types::{Fail, IndexName, LimitName, NoMemory, Text};
 use http_wire::Request;
 use list_machine::Target;
 use reply_json::RestFault;
-use search_json::{SearchBody, read_search};
+use search_json::{PitRef, SearchBody, read_search};
 use std::alloc::Global;
 
 // Whether a search has a parameter that isn't built yet.
@@ -50,45 +51,30 @@ fn is_batch(batch: u32) -> bool
 }
 
 // The number that the body is read with: the usual one where the query's is none.
-fn batch_used(alloc: Global, request: &Request) -> Result<u32, NoMemory>
-    ensures is { IfOk result (λ batch. batch ≡ batch_used (batch_asked request.now)) }
-    ensures least { IfOk result (λ batch. 2 ≤ batch) }
-    ensures most { IfOk result (λ batch. batch ≤ 1024) }
+fn batch_used(batch: u32) -> u32
+    ensures is { result ≡ batch_used batch }
+    ensures least { 2 ≤ result }
+    ensures most { result ≤ 1024 }
 {
-    match batch_asked(alloc, request) {
-        Ok(batch) if is_batch(batch) => Ok(batch),
-        Err(RestFault::NoMemory) => Err(NoMemory),
-        _ => Ok(USUAL_BATCH),
-    }
+    if is_batch(batch) { batch } else { USUAL_BATCH }
 }
 
 // What the body of a search asks for, or its fault.
 fn body_of(
     alloc: Global,
     has_index: bool,
-    newest: u64,
     batch: u32,
     request: &Request,
 ) -> Result<Result<SearchBody, BodyFault>, NoMemory>
     requires least { 2 ≤ batch }
     requires most { batch ≤ 1024 }
-    ensures is { IfOk result (λ asked. asked ≡ search_of has_index newest batch request.now.body) }
+    ensures is { IfOk result (λ asked. asked ≡ search_of has_index batch request.now.body) }
     ensures within { IfOk result AreWithinLimits }
 {
-    match read_search(alloc, request.body.as_slice(), has_index, newest, batch) {
+    match read_search(alloc, request.body.as_slice(), has_index, batch) {
         Ok(asked) => Ok(Ok(asked)),
         Err(Fail::Is(fault)) => Ok(Err(fault)),
         Err(Fail::NoMemory) => Err(NoMemory),
-    }
-}
-
-// A form of the body that isn't built goes before all other refusals.
-fn check_form(asked: &Result<SearchBody, BodyFault>) -> Result<(), RestFault>
-    ensures { result ≡ check_form asked.now }
-{
-    match asked {
-        Err(BodyFault::NotBuilt) => Err(RestFault::NotBuilt),
-        _ => Ok(()),
     }
 }
 
@@ -114,7 +100,7 @@ fn index_told(index: Option<Text>) -> Result<Option<IndexName>, RestFault>
     }
 }
 
-// The index, where its name is one, and the number of shards may be asked.
+// The index, where its name is one, and the batch may be asked.
 fn limits_told(index: Option<Text>, batch: u32) -> Result<Option<IndexName>, RestFault>
     ensures { result ≡ limits_told index batch }
 {
@@ -136,12 +122,17 @@ fn target_asked(index: Option<IndexName>, asked: SearchBody) -> Result<Ask, Rest
         return Ok(Ask::Search {
             target: Target::Index(index),
             request,
+            sent: None,
         });
     }
     match pit {
-        Some(number) => Ok(Ask::Search {
-            target: Target::Pit { number },
+        Some(PitRef { id, keep }) => Ok(Ask::Search {
+            target: Target::Pit {
+                number: pit_number(id),
+                keep,
+            },
             request,
+            sent: Some(id),
         }),
         None => Err(RestFault::Limit(LimitName::Pit)),
     }
@@ -161,41 +152,29 @@ fn search_told(
             Ok(index) => target_asked(index, asked),
             Err(fault) => Err(fault),
         },
+        Err(BodyFault::Limit(LimitName::KeepAlive)) => match index_told(index) {
+            Ok(_) => Err(RestFault::Limit(LimitName::KeepAlive)),
+            Err(fault) => Err(fault),
+        },
         Err(BodyFault::Limit(name)) => match limits_told(index, batch) {
             Ok(_) => Err(RestFault::Limit(name)),
+            Err(fault) => Err(fault),
+        },
+        Err(BodyFault::BadId) => match limits_told(index, batch) {
+            Ok(_) => Err(RestFault::BadId),
             Err(fault) => Err(fault),
         },
         Err(fault) => Err(body_fault(fault)),
     }
 }
 
-fn search_by(
-    alloc: Global,
-    has_index: bool,
-    request: &Request,
-    asked: Result<SearchBody, BodyFault>,
-) -> Result<Ask, RestFault>
-    requires { AreWithinLimits asked }
-    ensures answer { Answers result (search_by has_index request.now asked) }
+/// What a search asks for; `has_index` says that its path names an index. The body is read behind the path and the query.
+pub fn search_asked(alloc: Global, has_index: bool, request: &Request) -> Result<Ask, RestFault>
+    ensures answer { Answers result (search_asked has_index request.now) }
     ensures sound { IfOk result AsksSound }
 {
-    check_form(&asked)?;
     let index = index_where(alloc, has_index, request)?;
     let batch = batch_asked(alloc, request)?;
+    let asked = body_of(alloc, has_index, batch_used(batch), request)?;
     search_told(index, batch, asked)
-}
-
-/// What a search asks for; `has_index` says that its path names an index.
-pub fn search_asked(
-    alloc: Global,
-    has_index: bool,
-    newest: u64,
-    request: &Request,
-) -> Result<Ask, RestFault>
-    ensures answer { Answers result (search_asked has_index newest request.now) }
-    ensures sound { IfOk result AsksSound }
-{
-    let batch = batch_used(alloc, request)?;
-    let asked = body_of(alloc, has_index, newest, batch, request)?;
-    search_by(alloc, has_index, request, asked)
 }

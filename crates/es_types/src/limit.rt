@@ -1,6 +1,8 @@
 /// A limit that a request may break.
 #[derive(Clone, Copy)]
 pub enum LimitName {
+    /// The moment that a request hands in: 1 to 16 digits, at most 2^53.
+    Moment,
     /// The name of an index: see [`IndexName`](crate::IndexName).
     Index,
     /// A document's id: see [`DocId`](crate::DocId).
@@ -9,6 +11,8 @@ pub enum LimitName {
     Shards,
     /// The fields of a mapping: at most 1,000, of names as [`FieldName`](crate::FieldName) takes them.
     Fields,
+    /// How long something is kept: see [`KeepAlive`](crate::KeepAlive); a point in time at most 24 hours.
+    KeepAlive,
     /// How many shards make a batch, of which the number of phases is counted: 2 to 1,024.
     Batch,
     /// A point in time beside an index, or neither of them, or a slice without a point in time.

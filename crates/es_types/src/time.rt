@@ -83,13 +83,6 @@ impl Model for KeepAlive {
 }
 
 impl KeepAlive {
-    /// One minute, which is written `1m`.
-    pub fn minute() -> KeepAlive
-        ensures { result ≡ 60000 }
-    {
-        KeepAlive(60000)
-    }
-
     /// The time that a text says: digits and `d`, `h`, `m`, `s` or `ms` (Elasticsearch's reference, "Time units"), or `0` alone.
     pub fn read(text: &[u8]) -> Result<KeepAlive, BadTime>
         ensures { result_ok result ≡ keep_of text.now }

@@ -1,6 +1,6 @@
 -- The head, and the request, at the front of what is held.
-use Rattle.std.proofs.Common.{◌≡◌, ℕ, ◌+◌, ◌-◌, ◌<◌, ◌≤◌, List, ◌++◌, length, take, drop, Option, Some, None, Ok, Err, sym, ap, ◌∙◌, subst, inl, inr, IsUtf8, arith}
-use Rattle.std.specs.Prelude.{slice_range}
+use Rattle.std.proofs.Common.{◌≡◌, ℕ, ◌+◌, ◌-◌, ◌<◌, ◌≤◌, List, ◌++◌, length, take, drop, Option, Some, None, Ok, Err, refl, sym, ap, ◌∙◌, subst, inl, inr, IsUtf8, arith}
+use Rattle.std.specs.Prelude.{IfSome, option_map, slice_range}
 use Rattle.std.proofs.lemmas.List.{append_assoc, length-append, length-take, length-take-le, length-drop, take_all, take-take, take-append-le, take-append-drop}
 use Rattle.std.proofs.lemmas.Slice.{between_is}
 use Rattle.httparse.specs.declared.spans.Span.{Span}
@@ -102,11 +102,19 @@ module _ (bytes more held : List ℕ) (n : ℕ) (parsed : Parsed) (split : held 
   pub target_is : span_bytes held parsed.target ≡ is.head.target
   target_is = ap (λ (l : List ℕ). span_bytes l parsed.target) split ∙ span_front bytes more n parsed.target held_within.target low ∙ is.target
 
-  same_head : ◌≡◌ {A = Head} (record { method = span_bytes held parsed.method; target = span_bytes held parsed.target; body = parsed.body }) is.head
+  moment_at : (at : Option Span) → IfSome at (IsWithin n) → option_map (span_bytes held) at ≡ option_map (span_bytes (take n bytes)) at
+  moment_at None w = refl
+  moment_at (Some span) w = ap Some (ap (λ (l : List ℕ). span_bytes l span) split ∙ span_front bytes more n span w low)
+
+  moment_is : option_map (span_bytes held) parsed.moment ≡ is.head.moment
+  moment_is = moment_at parsed.moment held_within.moment ∙ is.moment
+
+  same_head : ◌≡◌ {A = Head} (record { method = span_bytes held parsed.method; target = span_bytes held parsed.target; moment = option_map (span_bytes held) parsed.moment; body = parsed.body }) is.head
   same_head =
-      ap (λ (m : List ℕ). let h : Head = record { method = m; target = span_bytes held parsed.target; body = parsed.body } in h) method_is
-      ∙ ap (λ (t : List ℕ). let h : Head = record { method = is.head.method; target = t; body = parsed.body } in h) target_is
-      ∙ ap (λ (b : ℕ). let h : Head = record { method = is.head.method; target = is.head.target; body = b } in h) is.body
+      ap (λ (m : List ℕ). let h : Head = record { method = m; target = span_bytes held parsed.target; moment = option_map (span_bytes held) parsed.moment; body = parsed.body } in h) method_is
+      ∙ ap (λ (t : List ℕ). let h : Head = record { method = is.head.method; target = t; moment = option_map (span_bytes held) parsed.moment; body = parsed.body } in h) target_is
+      ∙ ap (λ (w : Option (List ℕ)). let h : Head = record { method = is.head.method; target = is.head.target; moment = w; body = parsed.body } in h) moment_is
+      ∙ ap (λ (b : ℕ). let h : Head = record { method = is.head.method; target = is.head.target; moment = is.head.moment; body = b } in h) is.body
 
   pub begins_at : (request : Request) → n + parsed.body ≤ length held → request ≡ request_at held n parsed → (rest : List ℕ)
       → Begins (held ++ rest) request (drop (n + parsed.body) held ++ rest)

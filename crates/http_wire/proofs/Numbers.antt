@@ -1,30 +1,35 @@
--- The header lines of a head, and the number that a length is.
-use Rattle.std.proofs.Common.{◌≡◌, ℕ, ◌+◌, ◌-◌, ◌*◌, ◌<◌, ◌≤◌, ◌&&◌, Bool, true, false, cond, ltb, leb, List, [], ◌∷◌, length, drop, get_or, Option, Some, None, refl, sym, ap, ◌∙◌, arith}
+-- The header lines of a head, and the numbers that they hold.
+use Rattle.std.proofs.Common.{◌≡◌, ℕ, ◌+◌, ◌-◌, ◌*◌, ◌<◌, ◌≤◌, ◌&&◌, Bool, false, ltb, leb, List, [], ◌∷◌, length, drop, get_or, Option, Some, None, ap, ◌∙◌, arith}
 use Rattle.std.specs.Char.{digit_value, is_ascii_digit}
 use Rattle.std.specs.List.{list_all}
 use Rattle.std.specs.Str.Parse.{digits_value, digits_value_after}
-use Rattle.std.proofs.lemmas.Bool.{and_right, cond-false, cond-true, lt-leb, lt-ltb, le-ltb, leb-true, and_parts}
+use Rattle.std.proofs.lemmas.Bool.{and_right, cond-false, cond-true, lt-leb, lt-ltb, le-ltb}
 use Rattle.std.proofs.lemmas.List.{drop_more}
-use Rattle.http_wire.specs.Heads.{body_limit, length_of, number_of}
+use Rattle.httparse.specs.declared.spans.HeaderSpan.{HeaderSpan}
+use Rattle.httparse.specs.declared.spans.Span.{Span}
+use Rattle.http_wire.specs.Heads.{length_of, number_of}
+use Rattle.http_wire.specs.Parts.{one_value}
 
 abbrev some : List ℕ → Bool
 some digits = ltb 0 (length digits)
 
-abbrev few : List ℕ → Bool
-few digits = leb (length digits) 18
+abbrev few : ℕ → List ℕ → Bool
+few most digits = leb (length digits) most
 
 abbrev all : List ℕ → Bool
 all digits = list_all is_ascii_digit digits
 
-abbrev low : List ℕ → Bool
-low digits = leb (digits_value 10 digits) body_limit
+abbrev low : ℕ → List ℕ → Bool
+low limit digits = leb (digits_value 10 digits) limit
 
-no_number : (digits : List ℕ) → (some digits && (few digits && (all digits && low digits))) ≡ false → number_of digits ≡ None
-no_number digits h = cond-false (some digits && (few digits && (all digits && low digits))) (Some (digits_value 10 digits)) None h
+no_number : (most limit : ℕ) (digits : List ℕ) → (some digits && (few most digits && (all digits && low limit digits))) ≡ false → number_of most limit digits ≡ None
+no_number most limit digits h = cond-false (some digits && (few most digits && (all digits && low limit digits))) (Some (digits_value 10 digits)) None h
 
-pub number_big : (digits : List ℕ) → body_limit < digits_value 10 digits → number_of digits ≡ None
-number_big digits h =
-    no_number digits (and_right (some digits) (few digits && (all digits && low digits)) (and_right (few digits) (all digits && low digits) (and_right (all digits) (low digits) (lt-leb (digits_value 10 digits) body_limit h))))
+pub number_big : (most limit : ℕ) (digits : List ℕ) → limit < digits_value 10 digits → number_of most limit digits ≡ None
+number_big most limit digits h =
+    no_number most limit digits
+    (and_right (some digits) (few most digits && (all digits && low limit digits))
+    (and_right (few most digits) (all digits && low limit digits) (and_right (all digits) (low limit digits) (lt-leb (digits_value 10 digits) limit h))))
 
 -- a number that is over the limit stays so
 pub value_grows : (value : ℕ) (digits : List ℕ) → value ≤ digits_value_after 10 value digits
@@ -46,20 +51,8 @@ found_in None lines = length_of lines
 found_in (Some n) [] = Some n
 found_in (Some n) (line ∷ lines) = None
 
--- a length is within the limit
-number_small : (digits : List ℕ) (n : ℕ) → number_of digits ≡ Some n → n ≤ body_limit
-number_small digits n h =
-    let test : Bool = some digits && (few digits && (all digits && low digits)) in
-    let picked : (v : Bool) → test ≡ v → cond v (Some (digits_value 10 digits)) None ≡ Some n
-    = λ v e. ap (λ t. cond t (Some (digits_value 10 digits)) None) (sym e) ∙ h in
-    elim test as (λ v. test ≡ v → n ≤ body_limit) [
-      | true ↦ λ e.
-          let is : Some (digits_value 10 digits) ≡ Some n = picked true e in
-          let same : digits_value 10 digits ≡ n = cc in
-          let a = and_parts (some digits) (few digits && (all digits && low digits)) e in
-          let b = and_parts (few digits) (all digits && low digits) a.1 in
-          let c = and_parts (all digits) (low digits) b.1 in
-          let d = leb-true (digits_value 10 digits) body_limit c.1 in
-          omega (arith, d, same)
-      | false ↦ λ e. let is : ◌≡◌ {A = Option ℕ} None (Some n) = picked false e in let no : ⊥ = cc in absurd no
-    ] refl
+-- the moment that is found, where one was found before
+abbrev pub moment_found : Option Span → List HeaderSpan → Option (Option Span)
+moment_found None headers = one_value headers
+moment_found (Some span) [] = Some (Some span)
+moment_found (Some span) (header ∷ headers) = None

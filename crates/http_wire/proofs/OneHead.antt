@@ -5,16 +5,17 @@ use Rattle.httparse.specs.Grammar.{RequestHead}
 use Rattle.httparse.specs.Spans.{name_and_value}
 use Rattle.httparse.proofs.GrammarLemmas.{request_unique}
 use Rattle.http_wire.specs.declared.request.Request.{Request}
-use Rattle.http_wire.specs.Heads.{Head, IsHead, head_len, is_length, length_of}
+use Rattle.http_wire.specs.Heads.{Head, IsHead, head_len, is_length, is_moment, length_of, moment_of}
 use Rattle.http_wire.specs.Requests.{Begins, BeginsWithHead, HasNoRequest, IsEnd, IsRefused, Spells, head_limit, request_of}
 
-head_same : (a b : Head) → a.method ≡ b.method → a.target ≡ b.target → a.body ≡ b.body → a ≡ b
-head_same a b m t n =
-    ap (λ (x : List ℕ). let h : Head = record { method = x; target = a.target; body = a.body } in h) m
-    ∙ ap (λ (x : List ℕ). let h : Head = record { method = b.method; target = x; body = a.body } in h) t
-    ∙ ap (λ (x : ℕ). let h : Head = record { method = b.method; target = b.target; body = x } in h) n
+head_same : (a b : Head) → a.method ≡ b.method → a.target ≡ b.target → a.moment ≡ b.moment → a.body ≡ b.body → a ≡ b
+head_same a b m t w n =
+    ap (λ (x : List ℕ). let h : Head = record { method = x; target = a.target; moment = a.moment; body = a.body } in h) m
+    ∙ ap (λ (x : List ℕ). let h : Head = record { method = b.method; target = x; moment = a.moment; body = a.body } in h) t
+    ∙ ap (λ (x : Option (List ℕ)). let h : Head = record { method = b.method; target = b.target; moment = x; body = a.body } in h) w
+    ∙ ap (λ (x : ℕ). let h : Head = record { method = b.method; target = b.target; moment = b.moment; body = x } in h) n
 
-some_same : (m n : ℕ) → ◌≡◌ {A = Option ℕ} (Some m) (Some n) → m ≡ n
+some_same : {A : Type 0} (m n : A) → ◌≡◌ {A = Option A} (Some m) (Some n) → m ≡ n
 some_same m n h = cc
 
 none_some : (n : ℕ) → ◌≡◌ {A = Option ℕ} None (Some n) → ⊥
@@ -26,6 +27,7 @@ is_head_unique bytes a b x y =
     head_same a b
     (x.method ∙ ap (λ (g : RequestHead). g.method) same ∙ sym y.method)
     (x.target ∙ ap (λ (g : RequestHead). g.target) same ∙ sym y.target)
+    (some_same a.moment b.moment (sym x.moment ∙ ap (λ (g : RequestHead). moment_of (filter is_moment (map name_and_value g.fields))) same ∙ y.moment))
     (some_same a.body b.body (sym x.body ∙ ap (λ (g : RequestHead). length_of (filter is_length (map name_and_value g.fields))) same ∙ y.body))
 
 begins_unique : (stream b c : List ℕ) (g h : Head) → BeginsWithHead stream b g → BeginsWithHead stream c h → (b ≡ c) × (g ≡ h)

@@ -9,3 +9,6 @@ is_known_name name = list_any (str_eq_ignore_ascii_case name) known_names
 
 abbrev pub is_length_name : List ℕ → Bool
 is_length_name name = str_eq_ignore_ascii_case name (codes "content-length")
+
+abbrev pub is_moment_name : List ℕ → Bool
+is_moment_name name = str_eq_ignore_ascii_case name (codes "x-moment")

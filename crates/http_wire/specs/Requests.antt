@@ -22,7 +22,7 @@ request_of head body = record {
   method = head.method;
   path = path_of head.target;
   query = query_of head.target;
-  moment = None;
+  moment = head.moment;
   body = body;
   last = false;
 }

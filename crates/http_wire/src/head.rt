@@ -4,7 +4,7 @@ ghost use Rattle.http_wire.specs.Requests.{head_limit};
 ghost use Rattle.http_wire.specs.Parts.{IsParsed, IsParsedWithin, is_taken_head, parsed_of};
 ghost use Rattle.httparse.specs.Spans.{IsHeaderWithin, IsWithin};
 
-use crate::fields::{all_known, length_in};
+use crate::fields::{all_known, length_in, moment_in};
 use httparse::Status;
 use httparse::spans::{EMPTY_HEADER_SPAN, HeaderSpan, RequestSpans, Span, parse_request};
 
@@ -13,11 +13,12 @@ pub(crate) const HEAD_LIMIT: usize = 16_384;
 
 const MAX_HEADERS: usize = 100;
 
-/// Where the parts of a head are, and how long its body is.
+/// Where the parts of a head are, and how long its body is. `moment` is the value of its `x-moment`.
 #[derive(Clone, Copy)]
 pub(crate) struct Parsed {
     pub method: Span,
     pub target: Span,
+    pub moment: Option<Span>,
     pub body: usize,
 }
 
@@ -58,15 +59,19 @@ pub(crate) fn head_of(bytes: &[u8]) -> Option<Parsed>
 }
 
 fn accept(bytes: &[u8], headers: &[HeaderSpan], spans: &RequestSpans) -> Option<Parsed>
+    requires method { IsWithin (length bytes.now) spans.now.method }
     requires path { IsWithin (length bytes.now) spans.now.path }
     requires headers { All (IsHeaderWithin (length bytes.now)) headers.now }
-    ensures { result ≡ parsed_of bytes.now headers.now spans.now }
+    ensures is { result ≡ parsed_of bytes.now headers.now spans.now }
+    ensures within { IfSome result (IsParsedWithin (length bytes.now)) }
 {
     if is_taken(bytes, headers, spans) {
         let body = length_in(bytes, headers)?;
+        let moment = moment_in(bytes, headers)?;
         Some(Parsed {
             method: spans.method,
             target: spans.path,
+            moment,
             body,
         })
     } else {

@@ -11,6 +11,7 @@ mod request;
 mod wire;
 
 pub use buf::Buf;
+pub use fields::number;
 pub use laws::one_cut;
 pub use request::Request;
 pub use wire::{WireEnd, WriteFault, next_request, write_all};

@@ -14,12 +14,13 @@ pub(crate) fn make_request(
     alloc: Global,
     method: &[u8],
     target: &[u8],
+    moment: Option<Bytes>,
     body: &[u8],
 ) -> Option<Request>
     requires token { IsToken method.now }
     requires text { IsUtf8 target.now }
     ensures { IfSome result (λ request. request ≡ request_of
-        (record { method = method.now; target = target.now; body = length body.now }) body.now) }
+        (record { method = method.now; target = target.now; moment = moment; body = length body.now }) body.now) }
 {
     let method = make_method(alloc, method)?;
     let Ok(target) = str::from_utf8(target) else {
@@ -30,7 +31,7 @@ pub(crate) fn make_request(
         method,
         path: make_text(alloc, path)?,
         query: make_bytes(alloc, query)?,
-        moment: None,
+        moment,
         body: make_bytes(alloc, body)?,
         last: false,
     })
@@ -67,7 +68,7 @@ fn make_text(alloc: Global, text: &str) -> Option<Text>
     }
 }
 
-fn make_bytes(alloc: Global, bytes: &[u8]) -> Option<Bytes>
+pub(crate) fn make_bytes(alloc: Global, bytes: &[u8]) -> Option<Bytes>
     ensures { IfSome result (λ it. it ≡ bytes.now) }
 {
     match Vec::from_slice(alloc, bytes) {

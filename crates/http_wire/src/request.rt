@@ -1,8 +1,8 @@
 use es_types::{Bytes, Text};
 use http::Method;
 
-/// A request as it was sent. `path` and `query` are the target up to its first `?` and behind it, `moment` is the
-/// moment that it hands in, and `last` says that the connection ends with it.
+/// A request as it was sent. `path` and `query` are the target up to its first `?` and behind it, `moment` is the value
+/// of its `x-moment` without spaces and tabs at its ends, and `last` says that the connection ends with it.
 #[derive(Drop)]
 pub struct Request {
     pub method: Method,

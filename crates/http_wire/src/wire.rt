@@ -1,6 +1,6 @@
-ghost use Rattle.std.specs.Prelude.{◌≡◌, ◌+◌, ◌<◌, ◌≤◌, length, IfOk, IfSome, OnOk, OnErr, IsUtf8};
+ghost use Rattle.std.specs.Prelude.{◌≡◌, ◌+◌, ◌<◌, ◌≤◌, length, IfOk, IfSome, OnOk, OnErr, IsUtf8, option_map};
 ghost use Rattle.http.specs.Token.{IsToken};
-ghost use Rattle.httparse.specs.Spans.{span_bytes};
+ghost use Rattle.httparse.specs.Spans.{IsWithin, span_bytes};
 ghost use Rattle.http_wire.specs.Parts.{IsParsedWithin, request_at};
 ghost use Rattle.http_wire.specs.Steps.{BodyCame, HeadCame, IsShort};
 ghost use Rattle.http_wire.specs.Stream.{NextOf, Wrote, WroteSome, size};
@@ -8,9 +8,11 @@ ghost use Rattle.es_outside.specs.Told.{Rose};
 
 use crate::buf::read_more;
 use crate::head::{HEAD_LIMIT, Parsed, head_end, head_of};
-use crate::make::make_request;
+use crate::make::{make_bytes, make_request};
 use crate::{Buf, Request};
 use es_outside::Link;
+use es_types::Bytes;
+use httparse::spans::Span;
 use std::alloc::Global;
 
 /// Why a connection gave no further request. `NotBuilt` is a head that is not taken yet.
@@ -112,6 +114,17 @@ fn read_body<L: Link>(link: &mut L, buf: &mut Buf, long: usize) -> Result<(), Wi
     Ok(())
 }
 
+// The moment that a head hands in. The outer `None` is want of memory.
+fn moment_of(alloc: Global, held: &[u8], moment: Option<Span>) -> Option<Option<Bytes>>
+    requires { IfSome moment (IsWithin (length held.now)) }
+    ensures { IfSome result (λ it. it ≡ option_map (span_bytes held.now) moment) }
+{
+    match moment {
+        Some(span) => Some(Some(make_bytes(alloc, span.of(held))?)),
+        None => Some(None),
+    }
+}
+
 /// The request at the front of the bytes.
 fn cut(alloc: Global, held: &[u8], long: usize, head: &Parsed) -> Option<Request>
     requires within { IsParsedWithin long head.now }
@@ -120,10 +133,12 @@ fn cut(alloc: Global, held: &[u8], long: usize, head: &Parsed) -> Option<Request
     requires text { IsUtf8 (span_bytes held.now head.now.target) }
     ensures { IfSome result (λ request. request ≡ request_at held.now long head.now) }
 {
+    let moment = moment_of(alloc, held, head.moment)?;
     make_request(
         alloc,
         head.method.of(held),
         head.target.of(held),
+        moment,
         &held[long..long + head.body],
     )
 }

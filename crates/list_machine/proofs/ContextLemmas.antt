@@ -1,14 +1,14 @@
--- The contexts: the one of a number, and a new one.
-use Rattle.std.proofs.Common.{◌≡◌, ◌≢◌, ℕ, ◌<◌, ◌≤◌, Bool, true, false, cond, eqb, leb, List, [], ◌∷◌, Option, Some, refl, sym, ap, ◌∙◌, arith}
+-- The contexts: the one of a number, what a search of it is answered, and a new one.
+use Rattle.std.proofs.Common.{◌≡◌, ◌≢◌, ℕ, Bool, true, false, cond, eqb, List, [], ◌∷◌, Option, Some, refl, sym, ap, ◌∙◌, arith}
 use Rattle.std.specs.List.{find}
 use Rattle.std.specs.Option.{option_map}
 use Rattle.list_machine.specs.declared.event.Reply.{Reply}
 use Rattle.list_machine.specs.declared.event.Reply.TheVariants.{Missing, Opened, TooMany}
 use Rattle.list_machine.specs.declared.search.SearchRequest.{SearchRequest}
 use Rattle.list_machine.specs.declared.context.ContextStore.{ContextStore}
-use Rattle.list_machine.specs.State.{Index, State, context_of, live_contexts}
-use Rattle.list_machine.specs.Step.{open_pit, search_pit, search_reply}
-use Rattle.list_machine.specs.Stores.{context_seen, contexts_seen, view_seen}
+use Rattle.list_machine.specs.State.{Index, State, context_of, is_live, live_contexts}
+use Rattle.list_machine.specs.Step.{open_pit, search_reply}
+use Rattle.list_machine.specs.Stores.{context_seen, contexts_seen, reply_at, view_seen}
 use Rattle.list_machine.proofs.Moves.{opened}
 
 -- the context of a number among those that are seen
@@ -27,22 +27,18 @@ pub context_of-is : (number : ℕ) (stores : List ContextStore) (copied : Option
 context_of-is number stores copied is = context_of-seen number stores ∙ ap (option_map context_seen) (sym is)
 
 -- a live context is searched
-pub search_finds : (seen : State) (context : ContextStore) (request : SearchRequest) (reply : Reply) → seen.moment ≤ context.expiry
-    → reply ≡ search_reply (view_seen context) request
-    → search_pit seen request (Some (context_seen context)) ≡ (seen, reply)
-search_finds seen context request reply live is =
-    let replied : Reply → State × Reply = λ it. (seen, it) in
-    let chosen : Bool → State × Reply = λ b. cond b (seen, search_reply (view_seen context) request) (seen, Missing) in
-    let lives : leb seen.moment context.expiry ≡ true = grind arith in
-    ap chosen lives ∙ ap replied (sym is)
+pub reply_live : (moment : ℕ) (request : SearchRequest) (context : ContextStore) (reply : Reply) → is_live moment (context_seen context) ≡ true
+    → reply ≡ search_reply (view_seen context) request → reply ≡ reply_at moment request (Some (context_seen context))
+reply_live moment request context reply live is =
+    let chosen : Bool → Reply = λ b. cond b (search_reply (view_seen context) request) Missing in
+    is ∙ sym (ap chosen live)
 
--- a context past its moment is missing
-pub search_misses : (seen : State) (context : ContextStore) (request : SearchRequest) → context.expiry < seen.moment
-    → search_pit seen request (Some (context_seen context)) ≡ (seen, Missing)
-search_misses seen context request late =
-    let chosen : Bool → State × Reply = λ b. cond b (seen, search_reply (view_seen context) request) (seen, Missing) in
-    let ends : leb seen.moment context.expiry ≡ false = grind arith in
-    ap chosen ends
+-- one that isn't is missing
+pub reply_over : (moment : ℕ) (request : SearchRequest) (context : ContextStore) → is_live moment (context_seen context) ≡ false
+    → Missing ≡ reply_at moment request (Some (context_seen context))
+reply_over moment request context over =
+    let chosen : Bool → Reply = λ b. cond b (search_reply (view_seen context) request) Missing in
+    sym (ap chosen over)
 
 -- where as many are live as may be, none is opened
 pub open_full : (seen : State) (keep : ℕ) (index : Index) → live_contexts seen ≡ seen.limits.pits

@@ -1,5 +1,5 @@
 -- A context is found by its number from its opening on, and by no search before.
-use Rattle.std.proofs.Common.{◌≡◌, ℕ, ◌+◌, ◌<◌, ◌≤◌, ◌==◌, Bool, true, false, cond, List, [], ◌∷◌, ◌++◌, length, Option, Some, None, All, refl, sym, ap, ap₂, ◌∙◌, arith, eq-eqb, ne_eqb}
+use Rattle.std.proofs.Common.{◌≡◌, ℕ, ◌+◌, ◌<◌, ◌≤◌, ◌==◌, Bool, true, false, cond, List, [], ◌∷◌, ◌++◌, length, map, Option, Some, None, All, refl, sym, ap, ap₂, ◌∙◌, arith, eq-eqb, ne_eqb}
 use Rattle.std.specs.Option.{option_or}
 use Rattle.std.proofs.lemmas.Bool.{cond-true, cond-false}
 use Rattle.std.proofs.lemmas.List.Elements.{All-head, All-tail}
@@ -12,16 +12,17 @@ use Rattle.list_machine.specs.declared.search.SearchRequest.{SearchRequest}
 use Rattle.list_machine.specs.declared.search.Answer.{Answer}
 use Rattle.list_machine.specs.Views.{View, answer}
 use Rattle.list_machine.specs.State.{State, Index, Context, context_of, is_live, view_of}
-use Rattle.list_machine.specs.Step.{goes_on, search_pit, search_reply}
+use Rattle.list_machine.specs.Step.{goes_on, is_fit, keep_longer, search_pit, search_reply}
+use Rattle.list_machine.proofs.ContextMoves.{Named, named, named_of}
 use Rattle.list_machine.proofs.Moves.{opened}
 use Rattle.list_machine.proofs.Runs.{Later}
 
--- what is found stays found
-pub found_later : (old new : State) (number : ℕ) (context : Context) → Later old new → context_of number old.contexts ≡ Some context → context_of number new.contexts ≡ Some context
-found_later old new number context later e =
-    ap (context_of number) later.contexts
-    ∙ find-append (λ (context : Context). context.number == number) old.contexts later.more
-    ∙ ap (λ o. option_or o (context_of number later.more)) e
+-- what is found stays found, with its view
+pub found_later : (old new : State) (number : ℕ) (it : Named) → Later old new → named_of number (map named old.contexts) ≡ Some it → named_of number (map named new.contexts) ≡ Some it
+found_later old new number it later e =
+    ap (named_of number) later.contexts
+    ∙ find-append (λ (it : Named). it.number == number) (map named old.contexts) later.more
+    ∙ ap (λ o. option_or o (named_of number later.more)) e
 
 -- no context has a number that is above all
 pub none_above : (contexts : List Context) (next number : ℕ) → next ≤ number → All (λ (context : Context). context.number < next) contexts → context_of number contexts ≡ None
@@ -40,9 +41,9 @@ opening_cases false state keep index number r e o =
     (same, ap (λ (r : State × Reply). r.0) e)
 
 -- the context of the next number is found behind the others
-pub found_next : (state : State) (keep : ℕ) (index : Index) → All (λ (context : Context). context.number < state.next) state.contexts → context_of state.next (opened state keep index).contexts ≡ Some (record { number = state.next; view = view_of index; expiry = state.moment + keep })
+pub found_next : (state : State) (keep : ℕ) (index : Index) → All (λ (context : Context). context.number < state.next) state.contexts → context_of state.next (opened state keep index).contexts ≡ Some (record { number = state.next; view = view_of index; expiry = state.moment + keep; closed = false })
 found_next state keep index h =
-    let new : Context = record { number = state.next; view = view_of index; expiry = state.moment + keep } in
+    let new : Context = record { number = state.next; view = view_of index; expiry = state.moment + keep; closed = false } in
     find-append (λ (context : Context). context.number == state.next) state.contexts (new ∷ [])
     ∙ ap (λ o. option_or o (context_of state.next (new ∷ []))) (none_above state.contexts state.next state.next (omega arith) h)
     ∙ cond-true (state.next == state.next) (Some new) None (eq-eqb state.next state.next refl)
@@ -58,13 +59,15 @@ reply_cases view request found e = go (fits view.mapping request.query) (sort_fi
     go false sort after e = absurd (cc)
 
 -- what a found answer is of
-pub search_cases : (state : State) (request : SearchRequest) (o : Option Context) (found : Answer) → (search_pit state request o).1 ≡ Found found → (context : Context) × (o ≡ Some context) × (found ≡ answer context.view request request.from)
-search_cases state request None found e = absurd (cc)
-search_cases state request (Some context) found e = (context, refl, go (is_live state.moment context) e)
+pub search_cases : (state : State) (number : ℕ) (keep : Option ℕ) (request : SearchRequest) (o : Option Context) (found : Answer) → (search_pit state number keep request o).1 ≡ Found found
+    → (context : Context) × (o ≡ Some context) × (found ≡ answer context.view request request.from)
+search_cases state number keep request None found e = absurd (cc)
+search_cases state number keep request (Some context) found e =
+    (context, refl, go (is_live state.moment context) (cond (is_fit context.view request) (keep_longer state number keep) state) e)
   where
-    go : (live : Bool) → (cond {A = State × Reply} live (state, search_reply context.view request) (state, Missing)).1 ≡ Found found → found ≡ answer context.view request request.from
-    go true e = reply_cases context.view request found e
-    go false e = absurd (cc)
+    go : (live : Bool) (kept : State) → (cond {A = State × Reply} live (kept, search_reply context.view request) (state, Missing)).1 ≡ Found found → found ≡ answer context.view request request.from
+    go true kept e = reply_cases context.view request found e
+    go false kept e = absurd (cc)
 
 -- one list cut at two places
 pub cut_twice : {X : Type 0} (xs ys us vs : List X) → xs ++ us ≡ ys ++ vs → length xs ≤ length ys → (rest : List X) × (ys ≡ xs ++ rest) × (us ≡ rest ++ vs)

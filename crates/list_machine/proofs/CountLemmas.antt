@@ -1,5 +1,5 @@
 -- What is counted after one entry more.
-use Rattle.std.proofs.Common.{◌≡◌, ℕ, ◌+◌, ◌-◌, ◌≤◌, Some, inl, inr, List, [], ◌∷◌, length, slice_get, slice_set, All, bytes_eq, sym, subst, arith, length-set}
+use Rattle.std.proofs.Common.{◌≡◌, ℕ, ◌+◌, ◌-◌, ◌≤◌, false, Some, inl, inr, List, [], ◌∷◌, length, slice_get, slice_set, All, bytes_eq, ap, sym, subst, arith, length-set}
 use Rattle.std.proofs.lemmas.List.{length-append, length-drop, length-map, length-replicate}
 use Rattle.std.proofs.lemmas.List.Elements.{All-cons, All-head, All-tail, All-map, All-nil, All-push, All-replicate, All-set, All-weaker}
 use Rattle.es_types.specs.declared.mapping.Field.{Field}
@@ -10,10 +10,11 @@ use Rattle.list_machine.specs.declared.event.Event.{Event}
 use Rattle.list_machine.specs.declared.event.Limits.{Limits}
 use Rattle.list_machine.specs.Rows.{Shard, last_number, publish}
 use Rattle.list_machine.specs.Run.{IsBounded, History, run, state_of}
-use Rattle.list_machine.specs.State.{Context, Index, IsSoundShard, State, docs, empty_shard, most_shards, start, view_of}
+use Rattle.list_machine.specs.State.{Context, Index, IsSoundShard, State, docs, empty_shard, start, view_of}
 use Rattle.list_machine.specs.Step.{step}
-use Rattle.list_machine.specs.Stores.{IsCounted, IsCountedIndex, IsSmall}
+use Rattle.list_machine.specs.Stores.{IsCounted, IsCountedIndex, IsSmall, index_limit}
 use Rattle.list_machine.proofs.ShardLemmas.{publish_case}
+use Rattle.list_machine.proofs.ContextMoves.{kept_views}
 use Rattle.list_machine.proofs.Moves.{Changed, IsOpAt, MovesContexts, find_All, made, moves_indexes, slice_get_All, step_moves}
 use Rattle.list_machine.proofs.Sound.{start_sound, step_sound}
 
@@ -43,7 +44,7 @@ changed_index n event index at shard changed has changes h =
     }
 
 -- a new index counts, where it has a shard
-made_index : (n : ℕ) (name : List ℕ) (shards : ℕ) (mapping : List Field) → 1 ≤ shards → shards ≤ most_shards → IsCountedIndex n (made name shards mapping)
+made_index : (n : ℕ) (name : List ℕ) (shards : ℕ) (mapping : List Field) → 1 ≤ shards → shards ≤ index_limit → IsCountedIndex n (made name shards mapping)
 made_index n name shards mapping some few =
     record {
       some = omega (arith, length-replicate shards empty_shard);
@@ -65,14 +66,20 @@ moves_next : (old new : State) → MovesContexts old new → new.next ≤ old.ne
 moves_next old new (inl m) = omega (arith, m.next)
 moves_next old new (inr m) = omega (arith, m.next)
 
+-- and at most one more is there
+moves_many : (old new : State) → MovesContexts old new → length new.contexts ≤ length old.contexts + 1
+moves_many old new (inl m) = omega (arith, ap length m.contexts, length-map old.contexts m.to)
+moves_many old new (inr m) = omega (arith, ap length m.contexts, length-append old.contexts (record { number = old.next; view = view_of m.index; expiry = m.expiry; closed = false } ∷ []))
+
 -- a move keeps views small
 moves_small : (n : ℕ) (old new : State) → IsCounted n old → MovesContexts old new → All (λ (context : Context). IsSmall context.view) new.contexts
-moves_small n old new h (inl m) = subst (All (λ (context : Context). IsSmall context.view)) (sym m.contexts) h.views
+moves_small n old new h (inl m) =
+    subst (All (λ (context : Context). IsSmall context.view)) (sym m.contexts) (kept_views IsSmall m.to m.keeps old.contexts h.views)
 moves_small n old new h (inr m) =
     let counted = find_All (IsCountedIndex n) (λ (index : Index). bytes_eq index.name m.name) old.indexes m.index h.indexes m.there in
     let sound = find_All (λ (index : Index). All IsSoundShard index.shards) (λ (index : Index). bytes_eq index.name m.name) old.indexes m.index h.sound.shards m.there in
     subst (All (λ (context : Context). IsSmall context.view)) (sym m.contexts)
-    (All-push (λ (context : Context). IsSmall context.view) old.contexts (record { number = old.next; view = view_of m.index; expiry = m.expiry }) h.views (view_small n m.index counted sound))
+    (All-push (λ (context : Context). IsSmall context.view) old.contexts (record { number = old.next; view = view_of m.index; expiry = m.expiry; closed = false }) h.views (view_small n m.index counted sound))
 
 -- a step counts one entry more
 pub IsCounted-step : (n : ℕ) (state : State) (entry : Entry) → IsBounded entry.event → IsCounted n state → IsCounted (n + 1) (step state entry).0
@@ -83,9 +90,10 @@ IsCounted-step n state entry creates counted =
       indexes = moves_indexes entry.event (IsCountedIndex n) (IsCountedIndex (n + 1))
           (λ index h. record { some = h.some; few = h.few; numbers = All-weaker (IsNumbered n) (IsNumbered (n + 1)) (λ it less. omega arith) index.shards h.numbers })
           (changed_index n entry.event)
-          (λ name shards mapping is few. made_index (n + 1) name shards mapping (subst IsBounded is creates).0 few)
+          (λ name shards mapping is few. let bounded = subst IsBounded is creates in made_index (n + 1) name shards mapping bounded.0 bounded.1)
           state.indexes new.indexes m.indexes counted.indexes;
       next = omega (arith, counted.next, moves_next state new m.contexts);
+      many = omega (arith, counted.many, moves_many state new m.contexts);
       views = moves_small n state new counted m.contexts;
       sound = step_sound state entry counted.sound;
     }
@@ -96,6 +104,7 @@ IsCounted-start limits =
     record {
       indexes = All-cons (IsCountedIndex 0) (made docs 1 []) [] (made_index 0 docs 1 [] (omega arith) (omega arith)) (All-nil (IsCountedIndex 0));
       next = omega arith;
+      many = omega arith;
       views = All-nil (λ (context : Context). IsSmall context.view);
       sound = start_sound limits;
     }

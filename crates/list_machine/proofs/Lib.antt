@@ -5,8 +5,10 @@ pub mod PageLemmas
 pub mod IndexLemmas
 pub mod StoreLemmas
 pub mod ContextLemmas
+pub mod Freed
 pub mod CountLemmas
 pub mod ShardLemmas
+pub mod ContextMoves
 pub mod Moves
 pub mod IndexMoves
 pub mod Homes

@@ -1,6 +1,7 @@
 -- What a step does to a state.
-use Rattle.std.proofs.Common.{◌≡◌, ◌≢◌, ℕ, ◌+◌, ◌≤◌, ◌==◌, Bool, false, ltb, ◌⊎◌, inl, inr, ⊎_elim, List, [], ◌∷◌, ◌++◌, length, Option, Some, None, Result, Ok, Err, slice_get, slice_set, replicate, All, find, bytes_eq, count_by, refl, sym, ap, subst, arith}
+use Rattle.std.proofs.Common.{◌≡◌, ◌≢◌, ℕ, ◌+◌, ◌≤◌, ◌==◌, Bool, true, false, ltb, ◌⊎◌, inl, inr, ⊎_elim, List, [], ◌∷◌, ◌++◌, length, map, Option, Some, None, Result, Ok, Err, slice_get, slice_set, replicate, All, find, bytes_eq, count_by, refl, sym, ap, subst, ◌∙◌, arith}
 use Rattle.std.proofs.lemmas.Bool.{ltb-false, eqb-false, cond_both, cases_cond}
+use Rattle.std.proofs.lemmas.List.{map-id}
 use Rattle.std.proofs.lemmas.List.Elements.{All-cons, All-head, All-tail, All-push, All-replicate, All-set, All-weaker}
 use Rattle.std.proofs.lemmas.Option.{get_or_from_slice_get, slice_get_within}
 use Rattle.es_types.specs.declared.fit.DocFault.{DocFault}
@@ -12,16 +13,18 @@ use Rattle.es_types.specs.Fields.{fit}
 use Rattle.es_types.specs.Homes.{shard_of}
 use Rattle.list_machine.specs.declared.event.Entry.{Entry}
 use Rattle.list_machine.specs.declared.event.Event.{Event}
-use Rattle.list_machine.specs.declared.event.Event.TheVariants.{Create, Write, Seal, Publish, OpenPit, Search, Quiet}
+use Rattle.list_machine.specs.declared.event.Event.TheVariants.{Create, Write, Seal, Publish, OpenPit, Search, Close, Quiet}
 use Rattle.list_machine.specs.declared.event.Target.TheVariants as target
 use Rattle.list_machine.specs.declared.event.Change.{Change}
 use Rattle.list_machine.specs.declared.event.Change.TheVariants.{Put, Remove}
+use Rattle.list_machine.specs.declared.event.Which.{Which}
 use Rattle.list_machine.specs.declared.event.Reply.{Reply}
 use Rattle.list_machine.specs.declared.event.Reply.TheVariants.{Opened, TooMany}
 use Rattle.list_machine.specs.declared.search.SearchRequest.{SearchRequest}
 use Rattle.list_machine.specs.Rows.{Shard, last_number, publish}
 use Rattle.list_machine.specs.State.{State, Index, Context, empty_shard, id_of, index_of, put_index, context_of, is_live, live_contexts, shard_count, most_shards, view_of}
-use Rattle.list_machine.specs.Step.{is_full, op_of, put_op, append_op, create, write_shard, write_op, write, seal, publish_shard, publish_index, open_pit, search_index, search_pit, happen, at_moment, step}
+use Rattle.list_machine.specs.Step.{is_full, op_of, put_op, append_op, create, write_shard, write_op, write, seal, publish_shard, publish_index, open_pit, search_index, search_pit, is_fit, keep_one, keep_longer, close_one, close, happen, at_moment, step}
+use Rattle.list_machine.proofs.ContextMoves.{Keeps as KeepsEach, Rise, close_keeps, close_lives, keep_keeps, keep_lives}
 
 -- what is found has what all have
 pub find_All : {X : Type 0} (P : X → Type 0) (test : X → Bool) (xs : List X) (x : X) → All P xs → find test xs ≡ Some x → P x
@@ -95,10 +98,13 @@ pub record Makes (event : Event) (old new : List Index) : Type 0 where
 abbrev pub MovesIndexes : Event → List Index → List Index → Type 0
 MovesIndexes event old new = (new ≡ old) ⊎ (Puts event old new ⊎ Makes event old new)
 
--- no context changes
+-- no context is opened, each has its number and its view for good, and not more are live
 pub record Stays (old new : State) : Type 0 where
-  pub contexts : new.contexts ≡ old.contexts
+  pub to : Context → Context
+  pub keeps : KeepsEach to
+  pub contexts : new.contexts ≡ map to old.contexts
   pub next : new.next ≡ old.next
+  pub lives : Rise old.contexts → count_by (is_live new.moment) new.contexts ≤ count_by (is_live new.moment) old.contexts
 
 -- a context is opened, where not as many are live as may be
 pub record Grows (old new : State) : Type 0 where
@@ -107,7 +113,7 @@ pub record Grows (old new : State) : Type 0 where
   pub expiry : ℕ
   pub there : index_of name old.indexes ≡ Some index
   pub room : count_by (is_live new.moment) old.contexts ≢ old.limits.pits
-  pub contexts : new.contexts ≡ old.contexts ++ record { number = old.next; view = view_of index; expiry = expiry } ∷ []
+  pub contexts : new.contexts ≡ old.contexts ++ record { number = old.next; view = view_of index; expiry = expiry; closed = false } ∷ []
   pub next : new.next ≡ old.next + 1
 
 -- what becomes of the contexts
@@ -120,15 +126,30 @@ pub record Moves (event : Event) (old new : State) : Type 0 where
   pub indexes : MovesIndexes event old.indexes new.indexes
   pub contexts : MovesContexts old new
 
+-- no context changes
+unmoved : (old new : State) → new.contexts ≡ old.contexts → new.next ≡ old.next → Stays old new
+unmoved old new contexts next =
+    record {
+      to = λ context. context;
+      keeps = λ context. refl;
+      contexts = contexts ∙ sym (map-id old.contexts);
+      next = next;
+      lives = λ rise. omega (arith, ap (count_by (is_live new.moment)) contexts);
+    }
+
 -- the moment moves alone
 stays : (event : Event) (state : State) (moment : ℕ) → Moves event state (at_moment state moment)
 stays event state moment =
-    record { kept = record { limits = refl; moment = omega arith }; indexes = inl refl; contexts = inl (record { contexts = refl; next = refl }) }
+    record { kept = record { limits = refl; moment = omega arith }; indexes = inl refl; contexts = inl (unmoved state (at_moment state moment) refl refl) }
 
 -- the indexes alone move
 turns : (event : Event) (state : State) (moment : ℕ) (new : List Index) → MovesIndexes event state.indexes new → Moves event state (record state { moment = (at_moment state moment).moment; indexes = new })
 turns event state moment new m =
-    record { kept = record { limits = refl; moment = omega arith }; indexes = m; contexts = inl (record { contexts = refl; next = refl }) }
+    record {
+      kept = record { limits = refl; moment = omega arith };
+      indexes = m;
+      contexts = inl (unmoved state (record state { moment = (at_moment state moment).moment; indexes = new }) refl refl);
+    }
 
 -- a making moves
 create_moves : (state : State) (moment : ℕ) (name : List ℕ) (shards : ℕ) (mapping : List Field) (o : Option Index) → index_of name state.indexes ≡ o → Moves (Create name shards mapping) state (create (at_moment state moment) name shards mapping o).0
@@ -218,7 +239,7 @@ publish_moves state moment name at upto (Some index) e = publish_shard_moves sta
 abbrev pub opened : State → ℕ → Index → State
 opened state keep index = record state {
   next = state.next + 1;
-  contexts = state.contexts ++ record { number = state.next; view = view_of index; expiry = state.moment + keep } ∷ [];
+  contexts = state.contexts ++ record { number = state.next; view = view_of index; expiry = state.moment + keep; closed = false } ∷ [];
 }
 
 -- an opening moves
@@ -243,11 +264,51 @@ open_moves state moment name keep (Some index) e =
       });
     })
 
+-- a live context that is kept longer, where that is asked, moves
+keep_moves : (event : Event) (state : State) (moment number : ℕ) (keep : Option ℕ) (context : Context) → context_of number state.contexts ≡ Some context → is_live (at_moment state moment).moment context ≡ true
+    → Moves event state (keep_longer (at_moment state moment) number keep)
+keep_moves event state moment number None context e live = stays event state moment
+keep_moves event state moment number (Some keep) context e live =
+    let now : ℕ = (at_moment state moment).moment in
+    record {
+      kept = record { limits = refl; moment = omega arith };
+      indexes = inl refl;
+      contexts = inl (record {
+        to = keep_one now number keep;
+        keeps = keep_keeps now number keep;
+        contexts = refl;
+        next = refl;
+        lives = keep_lives now number keep state.contexts context e live;
+      });
+    }
+
 -- a search of a context, or of none, moves
-search_moves : (event : Event) (state : State) (moment : ℕ) (request : SearchRequest) (o : Option Context) → Moves event state (search_pit (at_moment state moment) request o).0
-search_moves event state moment request None = stays event state moment
-search_moves event state moment request (Some context) =
-    cond_both (is_live (at_moment state moment).moment context) _ _ (λ (r : State × Reply). Moves event state r.0) (λ _. stays event state moment) (λ _. stays event state moment)
+search_moves : (event : Event) (state : State) (moment number : ℕ) (keep : Option ℕ) (request : SearchRequest) (o : Option Context) → context_of number state.contexts ≡ o
+    → Moves event state (search_pit (at_moment state moment) number keep request o).0
+search_moves event state moment number keep request None e = stays event state moment
+search_moves event state moment number keep request (Some context) e =
+    let now : State = at_moment state moment in
+    cond_both (is_live now.moment context) _ _ (λ (r : State × Reply). Moves event state r.0)
+    (λ live.
+    cond_both (is_fit context.view request) (keep_longer now number keep) now (λ (it : State). Moves event state it)
+    (λ _. keep_moves event state moment number keep context e live) (λ _. stays event state moment))
+    (λ _. stays event state moment)
+
+-- a closing moves
+close_moves : (state : State) (moment : ℕ) (which : Which) → Moves (Close which) state (close (at_moment state moment) which).0
+close_moves state moment which =
+    let now : ℕ = (at_moment state moment).moment in
+    record {
+      kept = record { limits = refl; moment = omega arith };
+      indexes = inl refl;
+      contexts = inl (record {
+        to = close_one now which;
+        keeps = close_keeps now which;
+        contexts = refl;
+        next = refl;
+        lives = λ rise. close_lives now which state.contexts;
+      });
+    }
 
 -- a search of an index, or of none, moves
 search_index_moves : (event : Event) (state : State) (moment : ℕ) (request : SearchRequest) (o : Option Index) → Moves event state (search_index (at_moment state moment) request o).0
@@ -262,7 +323,9 @@ happen_moves state moment (Seal name) = seal_moves state moment name (index_of n
 happen_moves state moment (Publish name at upto) = publish_moves state moment name at upto (index_of name state.indexes) refl
 happen_moves state moment (OpenPit name keep) = open_moves state moment name keep (index_of name state.indexes) refl
 happen_moves state moment (Search (target.Index name) request) = search_index_moves (Search (target.Index name) request) state moment request (index_of name state.indexes)
-happen_moves state moment (Search (target.Pit number) request) = search_moves (Search (target.Pit number) request) state moment request (context_of number state.contexts)
+happen_moves state moment (Search (target.Pit number keep) request) =
+    search_moves (Search (target.Pit number keep) request) state moment number keep request (context_of number state.contexts) refl
+happen_moves state moment (Close which) = close_moves state moment which
 happen_moves state moment Quiet = stays Quiet state moment
 
 -- each step is a move

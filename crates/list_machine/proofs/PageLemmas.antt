@@ -17,7 +17,7 @@ use Rattle.list_machine.specs.declared.search.Answer.{Answer}
 use Rattle.list_machine.specs.declared.search.Hit.{Hit}
 use Rattle.list_machine.specs.declared.search.SearchRequest.{SearchRequest}
 use Rattle.list_machine.specs.Paging.{AreCandidates, key_beyond, place_seen, places_seen}
-use Rattle.list_machine.specs.Stores.{IsSmall}
+use Rattle.list_machine.specs.Stores.{IsCountable}
 use Rattle.list_machine.specs.Views.{HasPlaces, Place, View, answer, comes_before, enumeration, found, hit, is_beyond, is_skipped, key_at, page, phases, skipped, skipped_from}
 use Rattle.list_machine.proofs.Beyond.{filter_all}
 use Rattle.list_machine.proofs.Ordered.{KeyLaws, sorted_is}
@@ -48,7 +48,7 @@ skipped-more view query slice shards i rows less is =
     ∙ ap (λ n. skipped_from view query slice 0 (take i shards) + cond (is_skipped view query slice n rows) 1 0) (omega (arith, length-take-le i shards (omega arith)))
 
 -- no shard of a small view has more rows than it has numbers for
-pub small_has_places : (view : View) → IsSmall view → HasPlaces view
+pub small_has_places : (view : View) → IsCountable view → HasPlaces view
 small_has_places view small =
     All-weaker (λ (rows : List Row). length rows ≤ 2147483647) (λ (rows : List Row). length rows ≤ 4294967296) (λ rows few. omega (arith, few)) view.shards small.rows
 

@@ -1,5 +1,5 @@
 -- Each state that the machine comes to is sound.
-use Rattle.std.proofs.Common.{◌≡◌, ℕ, ◌+◌, ◌<◌, ◌≤◌, cond, inl, inr, List, [], ◌∷◌, ◌++◌, map, All, AllPairs, bytes_eq, count_by, Result, Ok, Err, refl, sym, ap, subst, subst₂, arith}
+use Rattle.std.proofs.Common.{◌≡◌, ℕ, ◌+◌, ◌<◌, ◌≤◌, false, cond, inl, inr, List, [], ◌∷◌, ◌++◌, map, All, AllPairs, bytes_eq, count_by, Result, Ok, Err, refl, sym, ap, subst, subst₂, arith}
 use Rattle.std.proofs.lemmas.List.Elements.{All-nil, All-cons, All-head, All-tail, All-push, All-weaker, All-map}
 use Rattle.std.proofs.lemmas.List.Quantifiers.{all_pairs_push}
 use Rattle.std.proofs.lemmas.List.Sums.{sum_by-le-sum_by, sum_by_push}
@@ -13,14 +13,16 @@ use Rattle.es_types.specs.Fields.{fit}
 use Rattle.list_machine.specs.declared.event.Entry.{Entry}
 use Rattle.list_machine.specs.declared.event.Limits.{Limits}
 use Rattle.list_machine.specs.declared.event.Event.{Event}
-use Rattle.list_machine.specs.declared.event.Event.TheVariants.{Create, Write, Seal, Publish, OpenPit, Search, Quiet}
+use Rattle.list_machine.specs.declared.event.Event.TheVariants.{Create, Write, Seal, Publish, OpenPit, Search, Close, Quiet}
 use Rattle.list_machine.specs.declared.event.Change.TheVariants.{Put, Remove}
 use Rattle.list_machine.specs.Rows.{Shard}
 use Rattle.list_machine.specs.Objects.{AreObjects, IsObject, PutsObjectOp}
+use Rattle.list_machine.specs.Views.{View}
 use Rattle.list_machine.specs.State.{AreHomes, State, Index, Context, IsSoundShard, IsSound, HasObjects, empty_shard, docs, start, view_of, is_live, live_contexts}
 use Rattle.list_machine.specs.Step.{put_op, step}
 use Rattle.list_machine.specs.Run.{History, run, state_of, PutsObject}
 use Rattle.list_machine.proofs.ShardLemmas.{publish_sound, append_sound, publish_All}
+use Rattle.list_machine.proofs.ContextMoves.{Rise, kept_issued, kept_rise, kept_views}
 use Rattle.list_machine.proofs.Moves.{find_All, Changed, IsOpOf, Keeps, Moves, MovesContexts, made, step_moves, moves_shards}
 use Rattle.list_machine.proofs.IndexMoves.{moves_few, moves_names}
 use Rattle.list_machine.proofs.Homes.{made_homes, moves_homes}
@@ -54,9 +56,13 @@ push_context contexts next context e h =
 
 -- a move keeps the contexts sound
 moves_contexts : (old new : State) → MovesContexts old new → SoundContexts old.contexts old.next → SoundContexts new.contexts new.next
-moves_contexts old new (inl m) h = subst₂ SoundContexts (sym m.contexts) (sym m.next) h
+moves_contexts old new (inl m) h =
+    subst₂ SoundContexts (sym m.contexts) (sym m.next) (record {
+      issued = kept_issued m.to m.keeps old.next old.contexts h.issued;
+      numbers_differ = kept_rise m.to m.keeps old.contexts h.numbers_differ;
+    })
 moves_contexts old new (inr m) h =
-    subst₂ SoundContexts (sym m.contexts) (sym m.next) (push_context old.contexts old.next (record { number = old.next; view = view_of m.index; expiry = m.expiry }) refl h)
+    subst₂ SoundContexts (sym m.contexts) (sym m.next) (push_context old.contexts old.next (record { number = old.next; view = view_of m.index; expiry = m.expiry; closed = false }) refl h)
 
 -- as time goes on, fewer are live
 live_later : (contexts : List Context) (early late : ℕ) → early ≤ late → count_by (is_live late) contexts ≤ count_by (is_live early) contexts
@@ -75,10 +81,10 @@ live_before old new k h =
     omega (arith, live_later old.contexts old.moment new.moment k.moment, h, ap (λ (limits : Limits). limits.pits) k.limits)
 
 -- no more are live than may be, once a move was made
-moves_limited : (old new : State) → Keeps old new → MovesContexts old new → live_contexts old ≤ old.limits.pits → live_contexts new ≤ new.limits.pits
-moves_limited old new k (inl m) h = subst (λ contexts. count_by (is_live new.moment) contexts ≤ new.limits.pits) (sym m.contexts) (live_before old new k h)
-moves_limited old new k (inr m) h =
-    let context : Context = record { number = old.next; view = view_of m.index; expiry = m.expiry } in
+moves_limited : (old new : State) → Keeps old new → MovesContexts old new → Rise old.contexts → live_contexts old ≤ old.limits.pits → live_contexts new ≤ new.limits.pits
+moves_limited old new k (inl m) rise h = omega (arith, m.lives rise, live_before old new k h)
+moves_limited old new k (inr m) rise h =
+    let context : Context = record { number = old.next; view = view_of m.index; expiry = m.expiry; closed = false } in
     subst (λ contexts. count_by (is_live new.moment) contexts ≤ new.limits.pits) (sym m.contexts)
     (omega (arith, live_before old new k h, live_push new.moment old.contexts context, m.room, ap (λ (limits : Limits). limits.pits) k.limits))
 
@@ -93,7 +99,7 @@ moves_sound event old new m h =
       few = moves_few event old.indexes new.indexes m.indexes h.few;
       issued = contexts.issued;
       numbers_differ = contexts.numbers_differ;
-      limited = moves_limited old new m.kept m.contexts h.limited;
+      limited = moves_limited old new m.kept m.contexts h.numbers_differ h.limited;
     }
 
 -- a step keeps a state sound
@@ -146,11 +152,13 @@ view_objects shards h =
 
 -- a move keeps views of objects
 moves_views : (old new : State) → MovesContexts old new → Objects old → All (λ (context : Context). All AreObjects context.view.shards) new.contexts
-moves_views old new (inl m) h = subst (All (λ (context : Context). All AreObjects context.view.shards)) (sym m.contexts) h.views
+moves_views old new (inl m) h =
+    subst (All (λ (context : Context). All AreObjects context.view.shards)) (sym m.contexts)
+    (kept_views (λ (view : View). All AreObjects view.shards) m.to m.keeps old.contexts h.views)
 moves_views old new (inr m) h =
     let was : All HasShardObjects m.index.shards = find_All (λ (index : Index). All HasShardObjects index.shards) (λ (index : Index). bytes_eq index.name m.name) old.indexes m.index h.shards m.there in
     subst (All (λ (context : Context). All AreObjects context.view.shards)) (sym m.contexts)
-    (All-push (λ (context : Context). All AreObjects context.view.shards) old.contexts (record { number = old.next; view = view_of m.index; expiry = m.expiry }) h.views (view_objects m.index.shards was))
+    (All-push (λ (context : Context). All AreObjects context.view.shards) old.contexts (record { number = old.next; view = view_of m.index; expiry = m.expiry; closed = false }) h.views (view_objects m.index.shards was))
 
 -- the operation of a put has the put's source
 put_op_object : (id source : List ℕ) (r : Result (List Value) DocFault) (op : Op) → put_op id source r ≡ Ok op → IsObject source → PutsObjectOp op
@@ -166,6 +174,7 @@ event_puts (Seal index) o op of = absurd of
 event_puts (Publish index shard upto) o op of = absurd of
 event_puts (OpenPit index keep) o op of = absurd of
 event_puts (Search target request) o op of = absurd of
+event_puts (Close which) o op of = absurd of
 event_puts Quiet o op of = absurd of
 
 -- an empty shard has nothing but objects

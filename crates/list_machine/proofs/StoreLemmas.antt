@@ -1,8 +1,8 @@
 -- The shards of an index in its list: what is read and written there.
-use Rattle.std.proofs.Common.{◌≡◌, Global, Vec, ℕ, ◌<◌, List, length, map, set, get_or, slice_get, Some, Result, Ok, Err, IfOk, refl, sym, ap, ap₂, ◌∙◌, subst, arith}
+use Rattle.std.proofs.Common.{◌≡◌, Global, Vec, ℕ, zero, suc, ◌+◌, ◌<◌, ◌≤◌, List, [], ◌∷◌, ◌++◌, length, map, take, drop, set, get_or, slice_get, Some, Result, Ok, Err, IfOk, refl, sym, ap, ap₂, ◌∙◌, subst, arith, append-nil}
 use Rattle.std.specs.List.{All}
 use Rattle.std.specs.Option.{option_map}
-use Rattle.std.proofs.lemmas.List.{get_or-map, length-map, map-set}
+use Rattle.std.proofs.lemmas.List.{drop_all, get_or-map, length-map, map-set, take_all}
 use Rattle.std.proofs.lemmas.Option.{slice_get-map, slice_get_read}
 use Rattle.es_types.specs.declared.mapping.Field.{Field}
 use Rattle.es_types.specs.declared.row.Op.{Op}
@@ -65,3 +65,30 @@ pub write_in_done : (mapping : List Field) (stores : List ShardStore) (id : List
 write_in_done mapping stores id change op home old new made homes less is (Ok reply) writes =
     write_in_is mapping stores id change op home old new reply made homes less is writes
 write_in_done mapping stores id change op home old new made homes less is (Err e) writes = tt
+
+-- Where the elements up to a place are changed and the others are as they were, one more is changed.
+pub changed_upto : {X Y : Type 0} (see : X → Y) (to : Y → Y) (olds : List Y) (news : List X) (at : ℕ) (old new : X) → at < length news → map see news ≡ map to (take at olds) ++ drop at olds
+    → old ≡ get_or news at old → see new ≡ to (see old) → map see (set news at new) ≡ map to (take (at + 1) olds) ++ drop (at + 1) olds
+changed_upto {X = X} {Y = Y} see to olds news at old new within so_far is makes =
+    let more : suc at ≡ at + 1 = omega arith in
+    subst (λ n. map see (set news at new) ≡ map to (take n olds) ++ drop n olds) more (go olds news at within so_far is)
+  where
+    go : (olds : List Y) (news : List X) (at : ℕ) → at < length news → map see news ≡ map to (take at olds) ++ drop at olds → old ≡ get_or news at old
+        → map see (set news at new) ≡ map to (take (suc at) olds) ++ drop (suc at) olds
+    go olds [] at within so_far is = absurd (omega arith)
+    go [] (x ∷ xs) zero within so_far is = absurd (cc)
+    go [] (x ∷ xs) (suc at) within so_far is = absurd (cc)
+    go (y ∷ ys) (x ∷ xs) zero within so_far is =
+        let head : see x ≡ y = cc in
+        let tail : map see xs ≡ ys = cc in
+        ap₂ (λ h t. h ∷ t) (makes ∙ ap to (ap see is ∙ head)) tail
+    go (y ∷ ys) (x ∷ xs) (suc at) within so_far is =
+        let head : see x ≡ to y = cc in
+        let tail : map see xs ≡ map to (take at ys) ++ drop at ys = cc in
+        ap₂ (λ h t. h ∷ t) head (go ys xs at (omega arith) tail is)
+
+-- Once all are changed, none is as it was.
+pub changed_all : {X Y : Type 0} (see : X → Y) (to : Y → Y) (olds : List Y) (news : List X) (at : ℕ) → length olds ≤ at → map see news ≡ map to (take at olds) ++ drop at olds
+    → map see news ≡ map to olds
+changed_all see to olds news at past so_far =
+    so_far ∙ ap₂ (λ a b. map to a ++ b) (take_all at olds past) (drop_all at olds past) ∙ append-nil (map to olds)

@@ -1,5 +1,6 @@
 -- Pages of a point in time that are taken in turn.
-use Rattle.std.proofs.Common.{◌≡◌, ℕ, true, ◌+◌, ◌<◌, ◌≤◌, ⊎_elim, List, [], ◌∷◌, ◌++◌, length, map, take, drop, Option, Some, None, All, filter, bytes_eq, refl, sym, ap, ap₂, ◌∙◌, subst, arith, append_assoc, append-nil, length-append, take-append-drop, length-take}
+use Rattle.std.proofs.Common.{◌≡◌, ℕ, true, ◌<◌, ◌≤◌, ⊎_elim, List, [], ◌∷◌, ◌++◌, length, map, take, drop, Option, Some, None, All, filter, bytes_eq, refl, sym, ap, ap₂, ◌∙◌, subst, arith, append_assoc, append-nil, length-append, take-append-drop, length-take}
+use Rattle.std.specs.Option.{option_map}
 use Rattle.std.proofs.lemmas.Bool.{cases_lt}
 use Rattle.std.proofs.lemmas.List.{map-append, length-map, drop_all}
 use Rattle.std.proofs.lemmas.List.Elements.{All-map, All-weaker}
@@ -19,6 +20,7 @@ use Rattle.list_machine.specs.State.{State, Index, Context, IsSoundShard, contex
 use Rattle.list_machine.specs.Step.{open_pit, happen, at_moment, step}
 use Rattle.list_machine.specs.Run.{History, run, state_of}
 use Rattle.list_machine.specs.Pages.{Asks, Turn, Opens, EndsAt, GoesOn, InTurn, hits_of, EndsShort, Enumerates, shows_place}
+use Rattle.list_machine.proofs.ContextMoves.{Named, named, named_found, named_of}
 use Rattle.list_machine.proofs.Moves.{find_All, opened}
 use Rattle.list_machine.proofs.Sound.{state_sound}
 use Rattle.list_machine.proofs.Runs.{run_later, run-append}
@@ -27,28 +29,30 @@ use Rattle.list_machine.proofs.Ordered.{KeyLaws, enumeration_rises}
 use Rattle.list_machine.proofs.Beyond.{AreInOrder, beyond_place, beyond_nothing}
 
 -- what an opening does: its number is the next one, and its context is found by it, with the view
-opens_is : (limits : Limits) (history : History) (number : ℕ) (view : View) (o : Opens limits history number view) → ((state_of limits o.before).next ≡ number) × ((context : Context) × (context_of number (step (state_of limits o.before) o.entry).0.contexts ≡ Some context) × (context.view ≡ view))
+opens_is : (limits : Limits) (history : History) (number : ℕ) (view : View) (o : Opens limits history number view) → ((state_of limits o.before).next ≡ number)
+    × (named_of number (map named (step (state_of limits o.before) o.entry).0.contexts) ≡ Some (record { number = number; view = view }))
 opens_is limits history number view o =
     let state : State = at_moment (state_of limits o.before) o.entry.moment in
     let is : step (state_of limits o.before) o.entry ≡ open_pit state o.keep (Some o.found) = ap (happen state) o.opens ∙ ap (open_pit state o.keep) o.there in
     let did = opening_cases _ state o.keep o.found number (step (state_of limits o.before) o.entry) is o.opened in
-    let context : Context = record { number = state.next; view = view_of o.found; expiry = state.moment + o.keep } in (
+    let made = (opened state o.keep o.found).contexts in
+    let there : named_of state.next (map named made) ≡ Some (record { number = state.next; view = view_of o.found }) =
+    named_found state.next made ∙ ap (option_map named) (found_next state o.keep o.found (state_sound limits o.before).issued) in (
       did.0,
-      (
-        context,
-        ap (λ (s : State). context_of number s.contexts) did.1 ∙ subst (λ n. context_of n (opened state o.keep o.found).contexts ≡ Some context) did.0 (found_next state o.keep o.found (state_sound limits o.before).issued),
-        sym o.sees,
-      ),
+      ap (λ (s : State). named_of number (map named s.contexts)) did.1
+          ∙ subst (λ n. named_of n (map named made) ≡ Some (record { number = n; view = view_of o.found })) did.0 there
+          ∙ ap (λ (v : View). Some (record { number = number; view = v })) (sym o.sees),
     )
 
 -- behind its opening a context is found
-finds_behind : (limits : Limits) (before now : History) (entry : Entry) (number : ℕ) (context : Context) → context_of number (step (state_of limits before) entry).0.contexts ≡ Some context → (rest after more : History) → now ≡ before ++ rest → entry ∷ after ≡ rest ++ more → length before < length now → context_of number (state_of limits now).contexts ≡ Some context
-finds_behind limits before now entry number context found [] after more e f l = absurd (omega (arith, ap length e, length-append before []))
-finds_behind limits before now entry number context found (first ∷ rest) after more e f l =
+finds_behind : (limits : Limits) (before now : History) (entry : Entry) (number : ℕ) (it : Named) → named_of number (map named (step (state_of limits before) entry).0.contexts) ≡ Some it → (rest after more : History) → now ≡ before ++ rest → entry ∷ after ≡ rest ++ more → length before < length now
+    → named_of number (map named (state_of limits now).contexts) ≡ Some it
+finds_behind limits before now entry number it found [] after more e f l = absurd (omega (arith, ap length e, length-append before []))
+finds_behind limits before now entry number it found (first ∷ rest) after more e f l =
     let same : first ≡ entry = cc in
     let state : State = (step (state_of limits before) entry).0 in
     let is : state_of limits now ≡ run state rest = ap (state_of limits) e ∙ run-append before (first ∷ rest) _ ∙ ap (λ x. run (step (state_of limits before) x).0 rest) same in
-    ap (λ (s : State). context_of number s.contexts) is ∙ found_later state (run state rest) number context (run_later rest state) found
+    ap (λ (s : State). named_of number (map named s.contexts)) is ∙ found_later state (run state rest) number it (run_later rest state) found
 
 -- before its opening it is not
 none_before : (limits : Limits) (before now : History) (number : ℕ) → (state_of limits before).next ≡ number → (rest : History) → before ≡ now ++ rest → context_of number (state_of limits now).contexts ≡ None
@@ -62,7 +66,7 @@ none_before limits before now number next rest e =
 turn_finds : (limits : Limits) (history : History) (number : ℕ) (turn : Turn limits history number) → (context : Context) × (context_of number (state_of limits turn.before).contexts ≡ Some context) × (turn.answer ≡ answer context.view turn.request turn.request.from)
 turn_finds limits history number turn =
     let state : State = at_moment (state_of limits turn.before) turn.entry.moment in
-    search_cases state turn.request (context_of number state.contexts) turn.answer
+    search_cases state number turn.keep turn.request (context_of number state.contexts) turn.answer
     (sym (ap (λ (event : Event). (happen state event).1) turn.searches) ∙ turn.found)
 
 -- each turn is answered from the view that the point in time got at its opening
@@ -74,9 +78,11 @@ turn_answer limits history number view o turn =
     ⊎_elim
     (λ (l : length o.before < length turn.before).
     let cut = cut_twice o.before turn.before (o.entry ∷ o.stands.after) (turn.entry ∷ turn.stands.after) both (omega (arith, l)) in
-    let there = finds_behind limits o.before turn.before o.entry number did.1.0 did.1.1 cut.0 o.stands.after (turn.entry ∷ turn.stands.after) cut.1 cut.2 l in
-    let same : finds.0 ≡ did.1.0 = cc (finds.1, there) in
-    finds.2 ∙ ap (λ v. answer v turn.request turn.request.from) (ap (λ (c : Context). c.view) same ∙ did.1.2))
+    let it : Named = record { number = number; view = view } in
+    let there = finds_behind limits o.before turn.before o.entry number it did.1 cut.0 o.stands.after (turn.entry ∷ turn.stands.after) cut.1 cut.2 l in
+    let both_are : Some (named finds.0) ≡ Some it = sym (named_found number (state_of limits turn.before).contexts ∙ ap (option_map named) finds.1) ∙ there in
+    let same : named finds.0 ≡ it = cc (both_are) in
+    finds.2 ∙ ap (λ v. answer v turn.request turn.request.from) (ap (λ (n : Named). n.view) same))
     (λ (l : length turn.before ≤ length o.before).
     let cut = cut_twice turn.before o.before (turn.entry ∷ turn.stands.after) (o.entry ∷ o.stands.after) (sym both) l in
     let none = none_before limits o.before turn.before number did.0 cut.0 cut.1 in

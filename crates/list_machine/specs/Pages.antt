@@ -22,10 +22,11 @@ use Rattle.list_machine.specs.Run.{History, state_of, reply_of, Stands}
 pub record Turn (limits : Limits) (history : History) (number : ℕ) : Type 0 where
   pub before : History
   pub entry : Entry
+  pub keep : Option ℕ
   pub request : SearchRequest
   pub answer : Answer
   pub stands : Stands history before entry
-  pub searches : entry.event ≡ Search (Pit number) request
+  pub searches : entry.event ≡ Search (Pit number keep) request
   pub found : reply_of limits before entry ≡ Found answer
 
 -- the values of the page's last hit, behind which the next page begins

@@ -1,5 +1,5 @@
 -- The state of the machine.
-use Rattle.std.specs.Prelude.{◌≡◌, ◌≢◌, ℕ, ◌+◌, ◌<◌, ◌≤◌, ◌==◌, Bool, bytes_eq, nat_le, if◌then◌else◌, List, [], ◌∷◌, length, map, find, slice_get, sum_by, count_by, All, AllPairs, Option, Some, codes}
+use Rattle.std.specs.Prelude.{◌≡◌, ◌≢◌, ℕ, ◌+◌, ◌<◌, ◌≤◌, ◌==◌, ◌&&◌, Bool, not, bytes_eq, nat_le, if◌then◌else◌, List, [], ◌∷◌, length, map, find, slice_get, sum_by, count_by, All, AllPairs, Option, Some, codes}
 use Rattle.es_types.specs.declared.mapping.Field.{Field}
 use Rattle.es_types.specs.declared.row.Op.{Op}
 use Rattle.es_types.specs.declared.row.Op.TheVariants.{Put, Remove}
@@ -15,11 +15,13 @@ pub record Index : Type 0 where
   pub mapping : List Field
   pub shards : List Shard
 
--- a point in time: its number, the view that it keeps, and the last moment at which it is live
+-- a point in time: its number, the view that it keeps, the last moment at which it is live unless it is closed before, and whether
+-- it is closed
 pub record Context : Type 0 where
   pub number : ℕ
   pub view : View
   pub expiry : ℕ
+  pub closed : Bool
 
 pub record State : Type 0 where
   pub limits : Limits
@@ -43,7 +45,7 @@ abbrev pub context_of : ℕ → List Context → Option Context
 context_of number contexts = find (λ context. context.number == number) contexts
 
 abbrev pub is_live : ℕ → Context → Bool
-is_live moment context = nat_le moment context.expiry
+is_live moment context = not context.closed && nat_le moment context.expiry
 
 abbrev pub live_contexts : State → ℕ
 live_contexts state = count_by (is_live state.moment) state.contexts

@@ -1,5 +1,6 @@
 -- One step of the machine, and its reply.
-use Rattle.std.specs.Prelude.{ℕ, ◌+◌, ◌==◌, max, Bool, true, false, nat_le, nat_lt, if◌then◌else◌, List, [], ◌∷◌, ◌++◌, length, map, replicate, Option, Some, None, Result, Ok, Err, slice_get, slice_set}
+use Rattle.std.specs.Prelude.{ℕ, ◌+◌, ◌==◌, ◌&&◌, max, Bool, true, false, nat_le, nat_lt, if◌then◌else◌, List, [], ◌∷◌, ◌++◌, length, map, filter, sum_by, replicate, Option, Some, None, Result, Ok, Err, slice_get, slice_set}
+use Rattle.std.specs.List.{list_any}
 use Rattle.es_types.specs.declared.fit.DocFault.{DocFault}
 use Rattle.es_types.specs.declared.mapping.Field.{Field}
 use Rattle.es_types.specs.declared.row.Op.{Op}
@@ -13,15 +14,17 @@ use Rattle.es_sort.specs.declared.sort.SortSpec.{SortSpec}
 use Rattle.es_sort.specs.Fits.{after_fits, sort_fits}
 use Rattle.list_machine.specs.declared.event.Entry.{Entry}
 use Rattle.list_machine.specs.declared.event.Event.{Event}
-use Rattle.list_machine.specs.declared.event.Event.TheVariants.{Create, Write, Seal, Publish, OpenPit, Search, Quiet}
+use Rattle.list_machine.specs.declared.event.Event.TheVariants.{Create, Write, Seal, Publish, OpenPit, Search, Close, Quiet}
 use Rattle.list_machine.specs.declared.event.Change.{Change}
 use Rattle.list_machine.specs.declared.event.Change.TheVariants.{Put, Remove}
 use Rattle.list_machine.specs.declared.event.Target.{Target}
 use Rattle.list_machine.specs.declared.event.Target.TheVariants as target
+use Rattle.list_machine.specs.declared.event.Which.{Which}
+use Rattle.list_machine.specs.declared.event.Which.TheVariants.{Pits}
 use Rattle.list_machine.specs.declared.event.Wrote.{Wrote}
 use Rattle.list_machine.specs.declared.event.Wrote.TheVariants.{Created, Updated, Deleted, NotFound}
 use Rattle.list_machine.specs.declared.event.Reply.{Reply}
-use Rattle.list_machine.specs.declared.event.Reply.TheVariants.{Done, Wrote as WroteReply, Sealed, Opened, Found, NoIndex, Exists, Missing, BadDoc, BadQuery, BadSort, BadAfter, TooMany, ShardFull}
+use Rattle.list_machine.specs.declared.event.Reply.TheVariants.{Done, Wrote as WroteReply, Sealed, Opened, Found, Closed, NoIndex, Exists, Missing, BadDoc, BadQuery, BadSort, BadAfter, TooMany, ShardFull}
 use Rattle.list_machine.specs.declared.search.SearchRequest.{SearchRequest}
 use Rattle.list_machine.specs.Rows.{Shard, has_id, last_number, publish, rows_to_come}
 use Rattle.list_machine.specs.Views.{View, answer}
@@ -108,7 +111,7 @@ open_pit state keep (Some index) =
     else (
       record state {
         next = state.next + 1;
-        contexts = state.contexts ++ record { number = state.next; view = view_of index; expiry = state.moment + keep } ∷ [];
+        contexts = state.contexts ++ record { number = state.next; view = view_of index; expiry = state.moment + keep; closed = false } ∷ [];
       },
       Opened state.next,
     )
@@ -134,14 +137,55 @@ abbrev pub search_index : State → SearchRequest → Option Index → State × 
 search_index state request None = (state, NoIndex)
 search_index state request (Some index) = (state, search_reply (view_of index) request)
 
-abbrev pub search_pit : State → SearchRequest → Option Context → State × Reply
-search_pit state request None = (state, Missing)
-search_pit state request (Some context) =
-    if is_live state.moment context then (state, search_reply context.view request) else (state, Missing)
+-- whether a search of the view is none of those refusals
+abbrev pub is_fit : View → SearchRequest → Bool
+is_fit view request = fits view.mapping request.query && (sort_fits view.mapping request.sort && goes_on view request.sort request.after)
+
+-- the last live moment of a context that is kept so long from a moment on: it is never shortened
+abbrev pub kept_till : ℕ → ℕ → ℕ → ℕ
+kept_till moment keep expiry = max expiry (moment + keep)
+
+abbrev pub keep_one : ℕ → ℕ → ℕ → Context → Context
+keep_one moment number keep context =
+    if context.number == number then record context { expiry = kept_till moment keep context.expiry } else context
+
+-- the context of that number is kept so long from now on, where that is asked
+abbrev pub keep_longer : State → ℕ → Option ℕ → State
+keep_longer state number None = state
+keep_longer state number (Some keep) = record state { contexts = map (keep_one state.moment number keep) state.contexts }
+
+abbrev pub search_pit : State → ℕ → Option ℕ → SearchRequest → Option Context → State × Reply
+search_pit state number keep request None = (state, Missing)
+search_pit state number keep request (Some context) =
+    if is_live state.moment context
+    then (if is_fit context.view request then keep_longer state number keep else state, search_reply context.view request)
+    else (state, Missing)
 
 abbrev pub search : State → SearchRequest → Target → State × Reply
 search state request (target.Index name) = search_index state request (index_of name state.indexes)
-search state request (target.Pit number) = search_pit state request (context_of number state.contexts)
+search state request (target.Pit number keep) = search_pit state number keep request (context_of number state.contexts)
+
+-- ---- closing
+
+abbrev pub is_named : Which → Context → Bool
+is_named (Pits numbers) context = list_any (λ number. number == context.number) numbers
+
+-- whether a context is one of those that are closed: it is named, and it is live
+abbrev pub is_closing : ℕ → Which → Context → Bool
+is_closing moment which context = is_live moment context && is_named which context
+
+abbrev pub close_one : ℕ → Which → Context → Context
+close_one moment which context = if is_closing moment which context then record context { closed = true } else context
+
+-- how many shards the views of those have together
+abbrev pub freed : ℕ → Which → List Context → ℕ
+freed moment which contexts = sum_by (λ (context : Context). length context.view.shards) (filter (is_closing moment which) contexts)
+
+abbrev pub close : State → Which → State × Reply
+close state which = (
+  record state { contexts = map (close_one state.moment which) state.contexts },
+  Closed (freed state.moment which state.contexts),
+)
 
 -- what an event makes of the state, and its reply
 abbrev pub happen : State → Event → State × Reply
@@ -151,6 +195,7 @@ happen state (Seal index) = seal state (index_of index state.indexes)
 happen state (Publish index shard upto) = publish_index state shard upto (index_of index state.indexes)
 happen state (OpenPit index keep) = open_pit state keep (index_of index state.indexes)
 happen state (Search looked request) = search state request looked
+happen state (Close which) = close state which
 happen state Quiet = (state, Done)
 
 -- the state once a moment has come: moments never fall

@@ -1,5 +1,5 @@
 -- What the lists of the plain machine are seen as: rows, indexes, contexts and a state.
-use Rattle.std.specs.Prelude.{◌≡◌, ℕ, ◌+◌, ◌≤◌, nat_lt, List, length, map, All, if◌then◌else◌, Option, Some, None, Result, Ok, Err, slice_get, slice_set}
+use Rattle.std.specs.Prelude.{◌≡◌, ℕ, ◌+◌, ◌≤◌, ◌==◌, max, nat_lt, List, length, map, All, if◌then◌else◌, Option, Some, None, Result, Ok, Err, slice_get, slice_set}
 use Rattle.es_types.specs.declared.bounds.Bounds.{Bounds}
 use Rattle.es_types.specs.declared.fit.DocFault.{DocFault}
 use Rattle.es_types.specs.declared.mapping.Field.{Field}
@@ -9,7 +9,8 @@ use Rattle.es_types.specs.Homes.{shard_of}
 use Rattle.es_query.specs.Limits.{bounds_of}
 use Rattle.list_machine.specs.declared.event.Change.{Change}
 use Rattle.list_machine.specs.declared.event.Reply.{Reply}
-use Rattle.list_machine.specs.declared.event.Reply.TheVariants.{BadDoc, NoIndex, ShardFull, Wrote as WroteReply}
+use Rattle.list_machine.specs.declared.event.Reply.TheVariants.{BadDoc, Missing, NoIndex, ShardFull, Wrote as WroteReply}
+use Rattle.list_machine.specs.declared.search.SearchRequest.{SearchRequest}
 use Rattle.list_machine.specs.declared.store.ShardStore.{ShardStore}
 use Rattle.list_machine.specs.declared.store.IndexStore.{IndexStore}
 use Rattle.list_machine.specs.declared.context.ContextStore.{ContextStore}
@@ -18,8 +19,8 @@ use Rattle.list_machine.specs.declared.view.ShardRef.{ShardRef}
 use Rattle.list_machine.specs.declared.view.ViewRef.{ViewRef}
 use Rattle.list_machine.specs.Rows.{Shard, has_id, last_number, publish, rows_to_come}
 use Rattle.list_machine.specs.Views.{View}
-use Rattle.list_machine.specs.State.{State, Index, Context, IsSound, most_shards}
-use Rattle.list_machine.specs.Step.{append_op, is_full, op_of, wrote}
+use Rattle.list_machine.specs.State.{State, Index, Context, IsSound, is_live, most_shards}
+use Rattle.list_machine.specs.Step.{append_op, is_full, op_of, search_reply, wrote}
 
 abbrev pub shard_seen : ShardStore → Shard
 shard_seen store = record { base = store.base; rows = store.rows.items; pending = store.pending.items }
@@ -34,7 +35,7 @@ abbrev pub view_seen : ContextStore → View
 view_seen store = record { index = store.index; mapping = store.mapping; shards = map (λ rows. rows.items) store.shards.items }
 
 abbrev pub context_seen : ContextStore → Context
-context_seen store = record { number = store.number; view = view_seen store; expiry = store.expiry }
+context_seen store = record { number = store.number; view = view_seen store; expiry = store.expiry; closed = store.closed }
 
 abbrev pub indexes_seen : List IndexStore → List Index
 indexes_seen stores = map index_seen stores
@@ -75,14 +76,23 @@ most_entries = 9007199254740991
 abbrev pub AreNumbered : ℕ → List Shard → Type 0
 AreNumbered n shards = All (λ (shard : Shard). last_number shard ≤ n) shards
 
--- an index has a shard, and not more than there may be, and no operation of them has a number above n
+-- as many shards as an index may have
+abbrev pub index_limit : ℕ
+index_limit = 1024
+
+-- an index has a shard, and not more than it may have, and no operation of them has a number above n
 pub record IsCountedIndex (n : ℕ) (index : Index) : Type 0 where
   pub some : 1 ≤ length index.shards
-  pub few : length index.shards ≤ most_shards
+  pub few : length index.shards ≤ index_limit
   pub numbers : AreNumbered n index.shards
 
--- a view has no more shards than there may be, and no shard of it more rows
+-- a view has no more shards than an index may have, and no shard of it more rows
 pub record IsSmall (view : View) : Type 0 where
+  pub few : length view.shards ≤ index_limit
+  pub rows : All (λ (rows : List Row). length rows ≤ 2147483647) view.shards
+
+-- a search can count its shards, and number the rows of each
+pub record IsCountable (view : View) : Type 0 where
   pub few : length view.shards ≤ most_shards
   pub rows : All (λ (rows : List Row). length rows ≤ 2147483647) view.shards
 
@@ -90,6 +100,7 @@ pub record IsSmall (view : View) : Type 0 where
 pub record IsCounted (n : ℕ) (state : State) : Type 0 where
   pub indexes : All (IsCountedIndex n) state.indexes
   pub next : state.next ≤ n + 1
+  pub many : length state.contexts ≤ n
   pub views : All (λ (context : Context). IsSmall context.view) state.contexts
   pub sound : IsSound state
 
@@ -131,6 +142,20 @@ publish_at shards at upto (Some shard) = slice_set shards at (publish_of shard u
 
 abbrev pub publish_in : List Shard → ℕ → ℕ → List Shard
 publish_in shards at upto = publish_at shards at upto (slice_get shards at)
+
+-- what a search of a context, or of none, is answered
+abbrev pub reply_at : ℕ → SearchRequest → Option Context → Reply
+reply_at moment request None = Missing
+reply_at moment request (Some context) = if is_live moment context then search_reply context.view request else Missing
+
+-- the context of that number is live till that moment at least
+abbrev pub raised : ℕ → ℕ → Context → Context
+raised number till context = if context.number == number then record context { expiry = max context.expiry till } else context
+
+-- the contexts once the one of that number is kept longer, where that is asked
+abbrev pub kept_longer : ℕ → ℕ → Option ℕ → List Context → List Context
+kept_longer moment number None contexts = contexts
+kept_longer moment number (Some keep) contexts = map (raised number (moment + keep)) contexts
 
 -- what becomes of the indexes at any state that has them, and the reply
 abbrev pub Turns : (State → State × Reply) → List IndexStore → List IndexStore → Reply → Type 0

@@ -4,7 +4,7 @@ ghost use Rattle.slice_rule.specs.Parts.{IsSlice, has, is_none};
 ghost use Rattle.list_machine.specs.Paging.{AddsPassing, AreCandidates};
 ghost use Rattle.list_machine.specs.Run.{IsWithinLimits};
 ghost use Rattle.list_machine.specs.State.{most_shards};
-ghost use Rattle.list_machine.specs.Stores.{AreBounded, IsSmall, view_at};
+ghost use Rattle.list_machine.specs.Stores.{AreBounded, IsCountable, view_at};
 ghost use Rattle.list_machine.specs.Views.{found, is_covered, is_had, is_wanted, places_of_shard};
 
 use crate::SearchRequest;
@@ -48,7 +48,7 @@ pub fn candidates<'a>(
     request: &SearchRequest,
 ) -> Result<Vec<Candidate<'a>>, NoMemory>
     requires bounded { AreBounded view.now }
-    requires small { IsSmall (view_at view.now) }
+    requires countable { IsCountable (view_at view.now) }
     requires within { IsWithinLimits request.now }
     ensures { IfOk result (λ them. AreCandidates (view_at view.now) request.now.sort
         (found (view_at view.now) request.now.query request.now.slice) them.items) }

@@ -1,12 +1,12 @@
-ghost use Rattle.std.specs.Prelude.{◌≡◌, IfOk, map};
+ghost use Rattle.std.specs.Prelude.{◌≡◌, false, IfOk, map};
 ghost use Rattle.es_query.specs.Limits.{bounds_of};
 
 use crate::bounds::bounds_in;
-use es_types::{Bounds, IndexName, Mapping, NoMemory, Row};
+use es_types::{Bounds, IndexName, Mapping, Moment, NoMemory, Row};
 use std::alloc::Global;
 
-/// A point in time: the rows of each shard that it keeps, between which values they lie, and the last moment at which it is
-/// live, in milliseconds.
+/// A point in time: the rows of each shard that it keeps, between which values they lie, the last moment at which it is
+/// live, in milliseconds, and whether it is closed.
 #[derive(Drop)]
 pub struct ContextStore {
     pub number: u64,
@@ -15,10 +15,12 @@ pub struct ContextStore {
     pub shards: Vec<Vec<Row>>,
     pub bounds: Vec<Bounds>,
     pub expiry: u64,
+    pub closed: bool,
     ghost bounded: { bounds.items ≡ map (λ rows. bounds_of mapping rows) (map (λ rows. rows.items) shards.items) },
 }
 
 impl ContextStore {
+    ghost use Rattle.list_machine.specs.State.{is_live};
     ghost use Rattle.list_machine.specs.Stores.{context_seen, view_over};
 
     /// A point in time of an index, whose shards have these rows.
@@ -30,8 +32,7 @@ impl ContextStore {
         shards: Vec<Vec<Row>>,
         expiry: u64,
     ) -> Result<ContextStore, NoMemory>
-        ensures seen { IfOk result (λ context. context_seen context ≡ record { number = number; view = view_over index mapping (map (λ rows. rows.items) shards.items); expiry = expiry }) }
-        ensures number { IfOk result (λ context. context.number ≡ number) }
+        ensures { IfOk result (λ context. context_seen context ≡ record { number = number; view = view_over index mapping (map (λ rows. rows.items) shards.items); expiry = expiry; closed = false }) }
     {
         let bounds = bounds_in(alloc, &mapping, &shards)?;
         Ok(ContextStore {
@@ -41,6 +42,14 @@ impl ContextStore {
             shards,
             bounds,
             expiry,
+            closed: false,
         })
+    }
+
+    /// Whether it is live at a moment.
+    pub fn is_live(&self, moment: Moment) -> bool
+        ensures { result ≡ is_live moment (context_seen self.now) }
+    {
+        !self.closed && moment.millis() <= self.expiry
     }
 }

@@ -8,11 +8,21 @@ pub enum Change {
     Remove,
 }
 
-/// What a search looks at: an index as it is now, or the view of a point in time.
+/// What a search looks at: an index as it is now, or the view of a point in time, which is kept longer where `keep` is given.
 #[derive(Drop)]
 pub enum Target {
     Index(IndexName),
-    Pit { number: u64 },
+    Pit {
+        number: u64,
+        keep: Option<KeepAlive>,
+    },
+}
+
+/// Which contexts are closed.
+#[derive(Drop)]
+pub enum Which {
+    /// The points in time of these numbers.
+    Pits(Items<u64>),
 }
 
 /// One step of the machine.
@@ -50,6 +60,10 @@ pub enum Event {
         target: Target,
         request: SearchRequest,
     },
+    /// Closes those of these contexts that are live.
+    Close {
+        which: Which,
+    },
     /// Changes nothing.
     Quiet,
 }
@@ -82,6 +96,8 @@ pub enum Reply {
     /// The number by which a search names the new point in time.
     Opened { number: u64 },
     Found(Answer),
+    /// How many shards the contexts have that were closed, together.
+    Closed { freed: u64 },
     /// The history has as many entries as it may have.
     Spent,
     NoIndex,

@@ -4,10 +4,12 @@
 
 mod bounds;
 mod candidates;
+mod closing;
 mod context;
 mod creating;
 mod event;
 mod first;
+mod keeping;
 mod laws;
 mod looking;
 mod machine;
@@ -20,14 +22,13 @@ mod store;
 mod view;
 mod writing;
 
-pub use bounds::bounds_of_each;
-pub use context::ContextStore;
-pub use event::{Change, Entry, Event, Limits, Reply, Target, Wrote};
+pub use event::{Change, Entry, Event, Limits, Reply, Target, Which, Wrote};
 pub use first::docs;
 pub use laws::{one_enumeration, pages_in_turn, slices_share_out, sound_states};
 pub use machine::Machine;
 pub use publishing::apply_ops;
 pub use search::{Answer, Counts, Hit, SearchRequest};
-pub use searching::{search_context, search_rows};
+pub use searching::search_view;
 pub use service::Service;
+pub use view::{ShardRef, ViewRef};
 pub use writing::make_op;

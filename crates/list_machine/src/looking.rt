@@ -1,4 +1,4 @@
-ghost use Rattle.std.specs.Prelude.{◌≡◌, ◌+◌, ◌≤◌, IfOk, OnErr, All, map, count_by};
+ghost use Rattle.std.specs.Prelude.{◌≡◌, ◌+◌, ◌≤◌, false, IfOk, OnErr, All, map, count_by};
 ghost use Rattle.list_machine.specs.declared.event.Event.TheVariants.{OpenPit, Seal};
 ghost use Rattle.list_machine.specs.Rows.{last_number as last_number_of};
 ghost use Rattle.list_machine.specs.State.{State, is_live, view_of};
@@ -66,8 +66,7 @@ pub fn open_pit(
 fn live_contexts(contexts: &[ContextStore], moment: Moment) -> u64
     ensures { result ≡ count_by (is_live moment) (contexts_seen contexts.now) }
 {
-    let moment = moment.millis();
-    contexts.iter().filter(|c| moment <= c.expiry).count() as u64
+    contexts.iter().filter(|c| c.is_live(moment)).count() as u64
 }
 
 fn make_context(
@@ -76,7 +75,7 @@ fn make_context(
     number: u64,
     expiry: u64,
 ) -> Result<ContextStore, NoMemory>
-    ensures { IfOk result (λ context. context_seen context ≡ record { number = number; view = view_of (index_seen index.now); expiry = expiry }) }
+    ensures { IfOk result (λ context. context_seen context ≡ record { number = number; view = view_of (index_seen index.now); expiry = expiry; closed = false }) }
 {
     let name = index.name.copy(alloc)?;
     let mapping = index.mapping.copy(alloc)?;

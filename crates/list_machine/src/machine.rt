@@ -4,6 +4,7 @@ ghost use Rattle.list_machine.specs.State.{start};
 ghost use Rattle.list_machine.specs.Step.{happen, step};
 ghost use Rattle.list_machine.specs.Stores.{IsCounted, most_entries, state_seen};
 
+use crate::closing::close;
 use crate::creating::create;
 use crate::first::first_store;
 use crate::looking::{open_pit, seal};
@@ -101,6 +102,7 @@ fn reply_to(
         }
         Event::OpenPit { index, keep } => open_pit(alloc, store, moment, index, keep),
         Event::Search { target, request } => search(alloc, store, moment, target, request),
+        Event::Close { which } => Ok(close(&mut store.contexts, moment, which)),
         Event::Quiet => Ok(Reply::Done),
     }
 }

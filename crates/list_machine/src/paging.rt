@@ -5,7 +5,7 @@ ghost use Rattle.list_machine.specs.declared.candidates.Candidate.{Candidate as 
 ghost use Rattle.list_machine.specs.Paging.{AreCandidates, key_beyond, place_seen};
 ghost use Rattle.list_machine.specs.Run.{IsWithinLimits};
 ghost use Rattle.list_machine.specs.State.{most_shards};
-ghost use Rattle.list_machine.specs.Stores.{AreBounded, IsSmall, view_at};
+ghost use Rattle.list_machine.specs.Stores.{AreBounded, IsCountable, view_at};
 ghost use Rattle.list_machine.specs.Views.{answer, enumeration, hit, is_beyond, is_skipped, key_at, page, phases, skipped};
 
 use crate::candidates::{Candidate, candidates, cover_of};
@@ -19,7 +19,7 @@ use std::alloc::Global;
 /// The answer to a search of a view, in the order of its sort.
 pub fn answer(alloc: Global, view: &ViewRef, request: &SearchRequest) -> Result<Answer, NoMemory>
     requires bounded { AreBounded view.now }
-    requires small { IsSmall (view_at view.now) }
+    requires countable { IsCountable (view_at view.now) }
     requires within { IsWithinLimits request.now }
     ensures { IfOk result (λ it. it ≡ answer (view_at view.now) request.now request.now.from) }
 {
@@ -86,7 +86,7 @@ fn found_in_order<'a>(
     request: &SearchRequest,
 ) -> Result<Vec<Candidate<'a>>, NoMemory>
     requires bounded { AreBounded view.now }
-    requires small { IsSmall (view_at view.now) }
+    requires countable { IsCountable (view_at view.now) }
     requires within { IsWithinLimits request.now }
     ensures { IfOk result (λ them. AreCandidates (view_at view.now) request.now.sort
         (enumeration (view_at view.now) request.now.query request.now.sort request.now.slice) them.items) }

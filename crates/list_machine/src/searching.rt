@@ -1,38 +1,42 @@
-ghost use Rattle.std.specs.Prelude.{◌≡◌, ℕ, ◌==◌, List, find, length, map, unwrap_or, All, IfOk, option_copied};
+ghost use Rattle.std.specs.Prelude.{◌≡◌, ℕ, ◌==◌, List, find, length, map, unwrap_or, All, IfOk, OnErr, option_copied};
 ghost use Rattle.es_types.specs.declared.row.Row.{Row as RowOf};
 ghost use Rattle.list_machine.specs.declared.event.Event.TheVariants.{Search};
 ghost use Rattle.list_machine.specs.declared.event.Reply.TheVariants.{Found};
 ghost use Rattle.list_machine.specs.Run.{IsWithinLimits};
 ghost use Rattle.list_machine.specs.State.{Context, Index, IsSoundShard, State, context_of, index_of};
 ghost use Rattle.list_machine.specs.Step.{happen, search_index, search_pit, search_reply};
-ghost use Rattle.list_machine.specs.Stores.{IsCounted, IsCountedIndex, IsSmall, bounds_of_each, contexts_seen, indexes_seen, most_entries, state_seen, view_over, view_seen};
+ghost use Rattle.list_machine.specs.Stores.{AreBounded, IsCountable, IsCounted, IsCountedIndex, IsSmall, bounds_of_each, contexts_seen, indexes_seen, most_entries, reply_at, state_seen, view_at, view_over, view_seen};
 ghost use Rattle.list_machine.specs.Views.{answer};
 
 use crate::bounds::{bounds_of_each, rows_of_context};
 use crate::context::ContextStore;
+use crate::keeping::keep_longer;
 use crate::paging::answer;
 use crate::store::{IndexStore, ShardStore, Store, place_of};
 use crate::view::{ShardRef, ViewRef};
 use crate::{Reply, SearchRequest, Target};
-use es_types::{Bounds, IndexName, Mapping, Moment, NoMemory, Row};
+use es_types::{Bounds, IndexName, KeepAlive, Mapping, Moment, NoMemory, Row};
 use std::alloc::Global;
 
 /// Searches an index as it is now, or the view of a context that is live.
 pub fn search(
     alloc: Global,
-    store: &Store,
+    store: &mut Store,
     moment: Moment,
     target: &Target,
     request: &SearchRequest,
 ) -> Result<Reply, NoMemory>
-    requires counted { IsCounted most_entries (state_seen store.now) }
+    requires counted { IsCounted most_entries (state_seen store.old) }
     requires within { IsWithinLimits request.now }
-    ensures { IfOk result (λ reply. happen (record (state_seen store.now) { moment = moment }) (Search target.now request.now)
-        ≡ (record (state_seen store.now) { moment = moment }, reply)) }
+    ensures ok { IfOk result (λ reply. happen (record (state_seen store.old) { moment = moment }) (Search target.now request.now)
+        ≡ (record (state_seen store.new) { moment = moment }, reply)) }
+    ensures err { OnErr result (state_seen store.new ≡ state_seen store.old) }
 {
     match target {
         Target::Index(name) => search_index(alloc, &store.indexes, name, request),
-        Target::Pit { number } => search_pit(alloc, &store.contexts, moment, *number, request),
+        Target::Pit { number, keep } => {
+            search_pit(alloc, &mut store.contexts, moment, *number, keep, request)
+        }
     }
 }
 
@@ -56,7 +60,30 @@ fn search_index(
     search_rows(alloc, &index.name, &index.mapping, &rows, &bounds, request)
 }
 
+/// A context whose search is answered is kept longer, where that is asked.
 fn search_pit(
+    alloc: Global,
+    contexts: &mut Vec<ContextStore>,
+    moment: Moment,
+    number: u64,
+    keep: &Option<KeepAlive>,
+    request: &SearchRequest,
+) -> Result<Reply, NoMemory>
+    requires small { All (λ (context : Context). IsSmall context.view) (contexts_seen contexts.old.items) }
+    requires within { IsWithinLimits request.now }
+    ensures ok { IfOk result (λ reply. (state : State)
+        → search_pit (record state { moment = moment; contexts = contexts_seen contexts.old.items }) number keep.now request.now (context_of number (contexts_seen contexts.old.items))
+        ≡ (record state { moment = moment; contexts = contexts_seen contexts.new.items }, reply)) }
+    ensures err { OnErr result (contexts_seen contexts.new.items ≡ contexts_seen contexts.old.items) }
+{
+    let reply = search_live(alloc, contexts, moment, number, request)?;
+    if let Reply::Found(_) = reply {
+        keep_longer(contexts, moment, number, keep);
+    }
+    Ok(reply)
+}
+
+fn search_live(
     alloc: Global,
     contexts: &[ContextStore],
     moment: Moment,
@@ -65,13 +92,12 @@ fn search_pit(
 ) -> Result<Reply, NoMemory>
     requires small { All (λ (context : Context). IsSmall context.view) (contexts_seen contexts.now) }
     requires within { IsWithinLimits request.now }
-    ensures { IfOk result (λ reply. (state : State) → search_pit (record state { moment = moment }) request.now (context_of number (contexts_seen contexts.now))
-        ≡ (record state { moment = moment }, reply)) }
+    ensures { IfOk result (λ reply. reply ≡ reply_at moment request.now (context_of number (contexts_seen contexts.now))) }
 {
     let Some(context) = context_at(contexts, number) else {
         return Ok(Reply::Missing);
     };
-    if moment.millis() <= context.expiry {
+    if context.is_live(moment) {
         search_context(alloc, context, request)
     } else {
         Ok(Reply::Missing)
@@ -84,8 +110,7 @@ fn context_at(contexts: &[ContextStore], number: u64) -> Option<&ContextStore>
     contexts.iter().find(|context| context.number == number)
 }
 
-/// What a search of a context is answered.
-pub fn search_context(
+fn search_context(
     alloc: Global,
     context: &ContextStore,
     request: &SearchRequest,
@@ -107,7 +132,7 @@ pub fn search_context(
 }
 
 /// What a search of the shards with these rows is answered, whose values lie between these bounds.
-pub fn search_rows(
+fn search_rows(
     alloc: Global,
     index: &IndexName,
     mapping: &Mapping,
@@ -120,16 +145,30 @@ pub fn search_rows(
     requires within { IsWithinLimits request.now }
     ensures { IfOk result (λ reply. reply ≡ search_reply (view_over index.now mapping.now (map (λ rows. rows.now) rows.now)) request.now) }
 {
-    if let Some(refused) = refused(mapping, request) {
-        return Ok(refused);
-    }
     let shards = shards_of(alloc, rows, bounds)?;
     let view = ViewRef {
         index,
         mapping,
         shards: &shards,
     };
-    Ok(Reply::Found(answer(alloc, &view, request)?))
+    search_view(alloc, &view, request)
+}
+
+/// What a search of a view is answered.
+pub fn search_view(
+    alloc: Global,
+    view: &ViewRef,
+    request: &SearchRequest,
+) -> Result<Reply, NoMemory>
+    requires bounded { AreBounded view.now }
+    requires countable { IsCountable (view_at view.now) }
+    requires within { IsWithinLimits request.now }
+    ensures { IfOk result (λ reply. reply ≡ search_reply (view_at view.now) request.now) }
+{
+    if let Some(refused) = refused(view.mapping, request) {
+        return Ok(refused);
+    }
+    Ok(Reply::Found(answer(alloc, view, request)?))
 }
 
 /// Why a search doesn't fit the mapping: by its query, its sort, or the values that it goes on behind.

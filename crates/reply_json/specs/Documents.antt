@@ -1,5 +1,5 @@
--- What is said of a new index, a written document, a refresh and an opening, as JSON (RFC 8259).
-use Rattle.std.specs.Prelude.{ℕ, ◌-◌, List, [], ◌∷◌, codes, decimal}
+-- What is said of a new index, a written document, a refresh, an opening and a closing, as JSON (RFC 8259).
+use Rattle.std.specs.Prelude.{ℕ, ◌-◌, ◌==◌, if◌then◌else◌, List, [], ◌∷◌, codes, decimal}
 use Rattle.json.specs.Print.{quoted}
 use Rattle.list_machine.specs.declared.event.Wrote.{Wrote}
 use Rattle.list_machine.specs.declared.event.Wrote.TheVariants.{Created, Updated, Deleted, NotFound}
@@ -37,3 +37,11 @@ refreshed_text shards =
 unfoldable pub opened_text : ℕ → List ℕ
 opened_text number =
     joined (codes "{\"id\":\"" ∷ id_text number ∷ codes "\"}" ∷ [])
+
+-- the status code of a closing that freed so many shards
+abbrev pub closed_status : ℕ → ℕ
+closed_status freed = if freed == 0 then 404 else 200
+
+unfoldable pub closed_text : ℕ → List ℕ
+closed_text freed =
+    joined (codes "{\"succeeded\":true,\"num_freed\":" ∷ decimal freed ∷ codes "}" ∷ [])

@@ -4,7 +4,7 @@ use Rattle.json.specs.Print.{quoted}
 use Rattle.es_types.specs.declared.fit.DocCause.{DocCause}
 use Rattle.es_types.specs.declared.fit.DocCause.TheVariants.{Kind, TooLong}
 use Rattle.es_types.specs.declared.limit.LimitName.{LimitName}
-use Rattle.es_types.specs.declared.limit.LimitName.TheVariants.{Index, Id, Shards, Fields, Batch, Pit, From, Window, Slice, Sort}
+use Rattle.es_types.specs.declared.limit.LimitName.TheVariants.{Moment, Index, Id, Shards, Fields, KeepAlive, Batch, Pit, From, Window, Slice, Sort}
 use Rattle.reply_json.specs.declared.fault.RestFault.{RestFault}
 use Rattle.reply_json.specs.declared.fault.RestFault.TheVariants as fault
 use Rattle.reply_json.specs.Pieces.{joined}
@@ -14,6 +14,7 @@ fault_status fault.NotBuilt = 501
 fault_status (fault.BadParam name) = 400
 fault_status fault.BadBody = 400
 fault_status (fault.Limit name) = 400
+fault_status fault.BadId = 400
 fault_status fault.Spent = 429
 fault_status (fault.NoIndex name) = 404
 fault_status (fault.Exists name) = 400
@@ -31,6 +32,7 @@ fault_type fault.NotBuilt = codes "not_built_exception"
 fault_type (fault.BadParam name) = codes "illegal_argument_exception"
 fault_type fault.BadBody = codes "parsing_exception"
 fault_type (fault.Limit name) = codes "illegal_argument_exception"
+fault_type fault.BadId = codes "illegal_argument_exception"
 fault_type fault.Spent = codes "history_full_exception"
 fault_type (fault.NoIndex name) = codes "index_not_found_exception"
 fault_type (fault.Exists name) = codes "resource_already_exists_exception"
@@ -48,10 +50,12 @@ cause_text Kind = codes "of another kind"
 cause_text TooLong = codes "that is too long"
 
 abbrev pub limit_word : LimitName → List ℕ
+limit_word Moment = codes "moment"
 limit_word Index = codes "index"
 limit_word Id = codes "id"
 limit_word Shards = codes "shards"
 limit_word Fields = codes "fields"
+limit_word KeepAlive = codes "keep_alive"
 limit_word Batch = codes "batch"
 limit_word Pit = codes "pit"
 limit_word From = codes "from"
@@ -64,6 +68,7 @@ reason fault.NotBuilt = codes "not built"
 reason (fault.BadParam name) = joined (codes "bad parameter [" ∷ name ∷ codes "]" ∷ [])
 reason fault.BadBody = codes "bad body"
 reason (fault.Limit name) = joined (codes "limit [" ∷ limit_word name ∷ codes "]" ∷ [])
+reason fault.BadId = codes "bad id"
 reason fault.Spent = codes "history is full"
 reason (fault.NoIndex name) = joined (codes "no such index [" ∷ name ∷ codes "]" ∷ [])
 reason (fault.Exists name) = joined (codes "index [" ∷ name ∷ codes "] exists" ∷ [])

@@ -1,5 +1,5 @@
 ghost use Rattle.std.specs.Prelude.{◌≡◌, ◌∷◌, [], IfOk, codes, decimal, length, string_bytes};
-ghost use Rattle.reply_json.specs.Documents.{created_text, opened_text, refreshed_text, result_word, wrote_status, wrote_text};
+ghost use Rattle.reply_json.specs.Documents.{closed_status, closed_text, created_text, opened_text, refreshed_text, result_word, wrote_status, wrote_text};
 ghost use Rattle.reply_json.specs.Pieces.{joined};
 
 use crate::ids::id_text;
@@ -115,4 +115,19 @@ pub fn opened_text(alloc: Global, number: u64) -> Result<String, NoMemory>
 {
     let id = id_text(alloc, number)?;
     pit_text(alloc, id.as_str())
+}
+
+/// The status code of a closing that freed so many shards (RFC 9110, 15): 404 where there were none.
+pub fn closed_status(freed: u64) -> u16
+    ensures { result ≡ closed_status freed }
+{
+    if freed == 0 { 404 } else { 200 }
+}
+
+/// The body for a closing that freed so many shards.
+#[tactic(auto, unfolding(crate::specs::Documents::closed_text))]
+pub fn closed_text(alloc: Global, freed: u64) -> Result<String, NoMemory>
+    ensures { IfOk result (λ s. string_bytes s ≡ closed_text freed) }
+{
+    format!(in alloc; "{{\"succeeded\":true,\"num_freed\":{freed}}}")
 }

@@ -15,6 +15,8 @@ pub enum RestFault {
     BadBody,
     /// A limit that the request breaks.
     Limit(LimitName),
+    /// A text that is the id of no context.
+    BadId,
     /// The history has as many entries as it may have.
     Spent,
     /// There is no index of that name.

@@ -13,8 +13,7 @@ mod refused;
 mod reply;
 mod response;
 
-pub use document::wrote_status;
+pub use document::{closed_status, wrote_status};
 pub use fault::RestFault;
-pub use ids::id_text;
 pub use reply::{no_memory_text, print};
 pub use response::{BulkLine, BulkOutcome, Response, RouteName};

@@ -16,6 +16,7 @@ pub fn fault_status(fault: &RestFault) -> u16
         RestFault::BadParam(_) => 400,
         RestFault::BadBody => 400,
         RestFault::Limit(_) => 400,
+        RestFault::BadId => 400,
         RestFault::Spent => 429,
         RestFault::NoIndex(_) => 404,
         RestFault::Exists(_) => 400,
@@ -38,6 +39,7 @@ fn fault_type(fault: &RestFault) -> &'static str
         RestFault::BadParam(_) => "illegal_argument_exception",
         RestFault::BadBody => "parsing_exception",
         RestFault::Limit(_) => "illegal_argument_exception",
+        RestFault::BadId => "illegal_argument_exception",
         RestFault::Spent => "history_full_exception",
         RestFault::NoIndex(_) => "index_not_found_exception",
         RestFault::Exists(_) => "resource_already_exists_exception",
@@ -80,10 +82,12 @@ fn limit_word(name: LimitName) -> &'static str
     ensures { result.now ≡ limit_word name }
 {
     match name {
+        LimitName::Moment => "moment",
         LimitName::Index => "index",
         LimitName::Id => "id",
         LimitName::Shards => "shards",
         LimitName::Fields => "fields",
+        LimitName::KeepAlive => "keep_alive",
         LimitName::Batch => "batch",
         LimitName::Pit => "pit",
         LimitName::From => "from",
@@ -107,6 +111,7 @@ fn reason(alloc: Global, fault: &RestFault) -> Result<String, NoMemory>
         RestFault::BadParam(name) => around(alloc, "bad parameter [", name.as_str(), "]"),
         RestFault::BadBody => String::from_str(alloc, "bad body"),
         RestFault::Limit(name) => around(alloc, "limit [", limit_word(*name), "]"),
+        RestFault::BadId => String::from_str(alloc, "bad id"),
         RestFault::Spent => String::from_str(alloc, "history is full"),
         RestFault::NoIndex(name) => around(alloc, "no such index [", name.as_str(), "]"),
         RestFault::Exists(name) => around(alloc, "index [", name.as_str(), "] exists"),

@@ -2,7 +2,7 @@ ghost use Rattle.std.specs.Prelude.{◌≡◌, IfOk, false, true};
 ghost use Rattle.reply_json.specs.Replies.{reply_text, text};
 
 use crate::bulk::bulk_text;
-use crate::document::{created_text, opened_text, refreshed_text, wrote_text};
+use crate::document::{closed_text, created_text, opened_text, refreshed_text, wrote_text};
 use crate::fault::RestFault;
 use crate::found::found_text;
 use crate::frame::frame;
@@ -31,6 +31,9 @@ fn reply_text(alloc: Global, route: &RouteName, reply: &Reply) -> Result<Vec<u8>
         }
         (RouteName::OpenPit, Reply::Opened { number }) => {
             Ok(opened_text(alloc, *number)?.into_bytes())
+        }
+        (RouteName::ClosePit, Reply::Closed { freed }) => {
+            Ok(closed_text(alloc, *freed)?.into_bytes())
         }
         (RouteName::Search { pit }, Reply::Found(answer)) => found_text(alloc, *pit, answer),
         _ => Ok(Vec::new(alloc)),

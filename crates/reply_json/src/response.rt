@@ -10,6 +10,7 @@ pub enum RouteName {
     Remove { index: IndexName, id: DocId },
     Refresh,
     OpenPit,
+    ClosePit,
     /// A search of an index, or of the point in time of that number.
     Search { pit: Option<u64> },
 }
@@ -34,7 +35,7 @@ pub struct BulkLine {
 #[derive(Drop)]
 pub enum Response {
     /// A reply that its route gives a text: `Done` to Create, `Wrote` to Put and Remove, `Sealed` to Refresh, `Opened` to
-    /// OpenPit, `Found` to Search. Another one has an empty body.
+    /// OpenPit, `Closed` to ClosePit, `Found` to Search. Another one has an empty body.
     Json {
         status: u16,
         reply: Reply,

@@ -1,4 +1,4 @@
-pub mod Ids
+pub mod Pits
 pub mod Values
 pub mod Queries
 pub mod Sorts

@@ -1,42 +1,35 @@
--- What the body of a search asks for, and in which order a bad one is refused: what is no JSON (RFC 8259), then what isn't
--- built, then another form, then a limit that is broken. The members are those of Elasticsearch's reference, "Search API"
+-- What the body of a search asks for, and in which order a bad one is refused: what is no JSON (RFC 8259), then another form, then
+-- a limit that is broken, then a text that is no id. The members are those of Elasticsearch's reference, "Search API"
 -- and "Paginate search results": `query`, `size`, `from`, `sort`, `pit`, `search_after`, `slice`
 -- and `track_total_hits`.
 use Rattle.std.specs.Prelude.{ℕ, ◌+◌, ◌&&◌, ◌||◌, not, nat_lt, Bool, true, if◌then◌else◌, List, [], ◌∷◌, map, is_some, Option, Some, None, option_map, option_and_then, Result, Ok, Err, codes}
 use Rattle.std.specs.Option.{option_map_or}
 use Rattle.serde_json.specs.Data.{Data}
-use Rattle.serde_json.specs.Find.{as_bool, as_str, get}
+use Rattle.serde_json.specs.Find.{as_bool, get}
 use Rattle.es_types.specs.declared.limit.LimitName.{LimitName}
-use Rattle.es_types.specs.declared.limit.LimitName.TheVariants.{From, Pit, Sort, Window, Slice as SliceLimit}
+use Rattle.es_types.specs.declared.limit.LimitName.TheVariants.{From, KeepAlive, Pit, Sort, Window, Slice as SliceLimit}
+use Rattle.ctx_ids.specs.declared.id.ContextId.{ContextId}
 use Rattle.es_query.specs.declared.query.Query.{Query, All}
 use Rattle.es_sort.specs.declared.sort.Keys.{Keys}
 use Rattle.slice_rule.specs.declared.slice.Slice.{Slice}
 use Rattle.list_machine.specs.declared.search.SearchRequest.{SearchRequest}
 use Rattle.doc_json.specs.declared.fault.BodyFault.{BodyFault}
-use Rattle.doc_json.specs.declared.fault.BodyFault.TheVariants.{Limit, NotBuilt, Shape}
+use Rattle.doc_json.specs.declared.fault.BodyFault.TheVariants.{Limit, Shape}
 use Rattle.doc_json.specs.Indexes.{filled}
 use Rattle.doc_json.specs.Json.{data_of, form_then, is_form, json_then}
 use Rattle.search_json.specs.declared.search.Span.{Span}
 use Rattle.search_json.specs.declared.search.SearchBody.{SearchBody}
 use Rattle.search_json.specs.declared.sort.NamedKey.{NamedKey}
-use Rattle.search_json.specs.Ids.{pit_number}
+use Rattle.search_json.specs.declared.pit.Keep.{Keep}
+use Rattle.search_json.specs.declared.pit.Named.{Named}
+use Rattle.search_json.specs.declared.search.PitRef.{PitRef}
+use Rattle.search_json.specs.Pits.{asked_keep, breaks_keep, id_told, pit_of}
 use Rattle.search_json.specs.Queries.{query_of}
 use Rattle.search_json.specs.Slices.{breaks_slice, slice_of}
 use Rattle.search_json.specs.Sorts.{after_of, breaks_sort, sort_key, sort_of}
 use Rattle.search_json.specs.Values.{small_of}
 
 -- ---- members
-
-abbrev pub has : List ℕ → Data → Bool
-has name value = is_some (get name value)
-
--- the text of the `id` of the `pit`
-unfoldable pub pit_id : Data → Option (List ℕ)
-pit_id value = option_and_then as_str (option_and_then (get (codes "id")) (get (codes "pit") value))
-
--- the number of the point in time that the body names, where there is such a one
-unfoldable pub pit_named : ℕ → Data → Option ℕ
-pit_named newest value = option_and_then (pit_number newest) (pit_id value)
 
 abbrev pub count_in : ℕ → Option Data → Option ℕ
 count_in usual None = Some usual
@@ -58,21 +51,7 @@ asked_in (Some query) = query_of query
 unfoldable pub asked_of : Data → Option Query
 asked_of value = asked_in (get (codes "query") value)
 
--- ---- what isn't built
-
--- the point in time is kept open longer
-unfoldable pub is_kept_longer : Data → Bool
-is_kept_longer value = is_some (option_and_then (get (codes "keep_alive")) (get (codes "pit") value))
-
--- or it wasn't opened in this run
-unfoldable pub is_unbuilt : Option ℕ → Data → Bool
-is_unbuilt named value = is_kept_longer value || (is_some (pit_id value) && not (is_some named))
-
 -- ---- the form
-
--- a `pit` is an object of an `id` alone, which is a text
-unfoldable pub has_pit_form : Data → Bool
-has_pit_form value = option_map_or (λ pit. is_form (codes "id" ∷ []) pit && is_some (pit_id value)) (get (codes "pit") value) true
 
 -- `track_total_hits` says true or false, and makes no difference
 unfoldable pub has_track_form : Data → Bool
@@ -81,7 +60,7 @@ has_track_form value = option_map_or (λ track. is_some (as_bool track)) (get (c
 unfoldable pub has_form : Data → Bool
 has_form value =
     is_form (codes "query" ∷ codes "size" ∷ codes "from" ∷ codes "sort" ∷ codes "pit" ∷ codes "search_after" ∷ codes "slice" ∷ codes "track_total_hits" ∷ []) value
-    && (has_pit_form value && has_track_form value)
+    && has_track_form value
 
 -- ---- limits
 
@@ -89,24 +68,25 @@ has_form value =
 abbrev pub span_of : ℕ → ℕ → Option Slice → Option Keys → Span
 span_of from size slice after = record { from = from; size = size; after = after; slice = slice }
 
--- The first limit that is broken: either the path names an index or the body a point in time, a slice is one of a point in time,
--- hits are left out only where no values are given to go on behind, at most 10,000 hits are left out and wanted together, there
--- can be such a slice, and then the keys of the sort.
-abbrev pub broken : Bool → Bool → Span → List NamedKey → Option LimitName
-broken has_index in_pit span keys =
-    if (if has_index then in_pit else not in_pit) || (is_some span.slice && not in_pit) then Some Pit
+-- The first limit that is broken: a point in time can be kept so long, either the path names an index or the body a point in time, a
+-- slice is one of a point in time, hits are left out only where no values are given to go on behind, at most 10,000 hits are left
+-- out and wanted together, there can be such a slice, and then the keys of the sort.
+abbrev pub broken : Bool → Option Named → Span → List NamedKey → Option LimitName
+broken has_index named span keys =
+    if breaks_keep named then Some KeepAlive
+    else (if (if has_index then is_some named else not (is_some named)) || (is_some span.slice && not (is_some named)) then Some Pit
     else (if is_some span.after && nat_lt 0 span.from then Some From
     else (if nat_lt 10000 (span.from + span.size) then Some Window
     else (if breaks_slice span.slice then Some SliceLimit
-    else (if breaks_sort in_pit keys then Some Sort else None))))
+    else (if breaks_sort (is_some named) keys then Some Sort else None)))))
 
 -- ---- the whole
 
 -- a hit shows its place where the search is of a point in time
-abbrev pub request_of : Option ℕ → ℕ → Span → List NamedKey → Query → SearchRequest
-request_of named batch span keys query = record {
+abbrev pub request_of : Bool → ℕ → Span → List NamedKey → Query → SearchRequest
+request_of in_pit batch span keys query = record {
   query = query;
-  sort = record { keys = map sort_key keys; show_place = is_some named };
+  sort = record { keys = map sort_key keys; show_place = in_pit };
   from = span.from;
   size = span.size;
   after = span.after;
@@ -114,12 +94,23 @@ request_of named batch span keys query = record {
   batch = batch;
 }
 
-abbrev pub judged_limits : Option LimitName → SearchRequest → Option ℕ → Result SearchBody BodyFault
-judged_limits (Some name) request named = Err (Limit name)
-judged_limits None request named = Ok (record { request = request; pit = named })
+abbrev pub pit_ref : Keep → ContextId → PitRef
+pit_ref keep id = record { id = id; keep = asked_keep keep }
 
-abbrev pub limited : Bool → Option ℕ → ℕ → Span → List NamedKey → Query → Result SearchBody BodyFault
-limited has_index named batch span keys query = judged_limits (broken has_index (is_some named) span keys) (request_of named batch span keys query) named
+abbrev pub body_with : SearchRequest → Keep → Result ContextId BodyFault → Result SearchBody BodyFault
+body_with request keep (Ok id) = Ok (record { request = request; pit = Some (pit_ref keep id) })
+body_with request keep (Err fault) = Err fault
+
+abbrev pub body_of : SearchRequest → Option Named → Result SearchBody BodyFault
+body_of request None = Ok (record { request = request; pit = None })
+body_of request (Some named) = body_with request named.keep (id_told named.id)
+
+abbrev pub judged_limits : Option LimitName → SearchRequest → Option Named → Result SearchBody BodyFault
+judged_limits (Some name) request named = Err (Limit name)
+judged_limits None request named = body_of request named
+
+abbrev pub limited : Bool → Option Named → ℕ → Span → List NamedKey → Query → Result SearchBody BodyFault
+limited has_index named batch span keys query = judged_limits (broken has_index named span keys) (request_of (is_some named) batch span keys query) named
 
 -- these of a body
 unfoldable pub span_in : Data → Option Span
@@ -127,18 +118,15 @@ span_in value =
     option_and_then (λ from. option_and_then (λ size. option_and_then (λ slice. option_map (span_of from size slice) (after_of value))
     (slice_of value)) (size_of value)) (from_of value)
 
-unfoldable pub asked : Bool → Option ℕ → ℕ → Data → Result SearchBody BodyFault
+unfoldable pub asked : Bool → Option Named → ℕ → Data → Result SearchBody BodyFault
 asked has_index named batch value =
     form_then (span_in value) (λ span. form_then (sort_of value) (λ keys. form_then (asked_of value) (λ query.
     limited has_index named batch span keys query)))
 
-unfoldable pub judged : Bool → Option ℕ → ℕ → Data → Result SearchBody BodyFault
-judged has_index named batch value =
-    if is_unbuilt named value then Err NotBuilt
-    else (if has_form value then asked has_index named batch value else Err Shape)
+unfoldable pub judged : Bool → ℕ → Data → Result SearchBody BodyFault
+judged has_index batch value =
+    if has_form value then form_then (pit_of value) (λ named. asked has_index named batch value) else Err Shape
 
--- what a body asks for where the path names an index or doesn't, the points in time 1 to newest were opened, and so many shards
--- make a batch. An empty body counts as `{}`.
-unfoldable pub search_of : Bool → ℕ → ℕ → List ℕ → Result SearchBody BodyFault
-search_of has_index newest batch body =
-    json_then (data_of (filled body)) (λ value. judged has_index (pit_named newest value) batch value)
+-- what a body asks for where the path names an index or doesn't, and so many shards make a batch. An empty body counts as `{}`.
+unfoldable pub search_of : Bool → ℕ → List ℕ → Result SearchBody BodyFault
+search_of has_index batch body = json_then (data_of (filled body)) (λ value. judged has_index batch value)

@@ -2,13 +2,13 @@
 #![tactic(auto)]
 
 mod after;
-mod ids;
 mod names;
+mod pit;
 mod query;
 mod search;
 mod slice;
 mod sort;
 mod value;
 
-pub use ids::pit_number;
-pub use search::{SearchBody, read_search};
+pub use pit::{context_keep, read_pit_close};
+pub use search::{PitRef, SearchBody, read_search};

@@ -3,18 +3,19 @@ ghost use Rattle.serde_json.specs.View.{view};
 ghost use Rattle.es_types.specs.Fail.{Answers};
 ghost use Rattle.slice_rule.specs.Parts.{IsSlice};
 ghost use Rattle.list_machine.specs.Run.{IsWithinLimits};
-ghost use Rattle.search_json.specs.Searches.{asked, asked_of, broken, count_in, from_of, has_form, has_pit_form, has_track_form, is_kept_longer, is_unbuilt, judged, limited, pit_id, pit_named, search_of, size_of, span_in};
+ghost use Rattle.search_json.specs.Searches.{asked, asked_of, body_of, broken, count_in, from_of, has_form, has_track_form, judged, limited, search_of, size_of, span_in};
 
 use crate::after::after_of;
-use crate::ids::pit_number;
+use crate::pit::{Named, asked_keep, breaks_keep, id_told, pit_of};
 use crate::query::query_of;
 use crate::slice::{breaks_slice, slice_of};
 use crate::sort::{NamedKey, breaks_sort, sort_keys, sort_of};
 use crate::value::small_of;
+use ctx_ids::ContextId;
 use doc_json::{BodyFault, filled, is_form, read_data};
 use es_query::Query;
 use es_sort::{Keys, SortSpec};
-use es_types::{Fail, Items, LimitName, NoMemory};
+use es_types::{Fail, Items, KeepAlive, LimitName, NoMemory};
 use list_machine::SearchRequest;
 use serde_json::Value;
 use slice_rule::Slice;
@@ -35,56 +36,60 @@ struct Span {
     slice: Option<Slice>,
 }
 
+/// A point in time as a body names it, and how long it is kept from then on, where the body says that.
+#[derive(Clone, Copy)]
+pub struct PitRef {
+    pub id: ContextId,
+    pub keep: Option<KeepAlive>,
+}
+
 /// What the body of a search asks for, and the point in time that it names.
 #[derive(Drop)]
 pub struct SearchBody {
     pub request: SearchRequest,
-    pub pit: Option<u64>,
+    pub pit: Option<PitRef>,
 }
 
-/// What the body of a search asks for. `has_index` says that the path names an index, the points in time 1 to `newest` were
-/// opened in this run, and `batch` shards make a batch, which has 2 to 1,024. An empty body counts as `{}`.
+/// What the body of a search asks for. `has_index` says that the path names an index, and `batch` shards make a batch, which has
+/// 2 to 1,024. An empty body counts as `{}`.
 ///
-/// A body that is no JSON is told first, then what isn't built, then a form that is wrong, then a limit that is broken.
+/// A body that is no JSON is told first, then a form that is wrong, then a limit that is broken, then a text that is no id.
 #[tactic(auto, unfolding(crate::specs::Searches::search_of))]
 pub fn read_search(
     alloc: Global,
     body: &[u8],
     has_index: bool,
-    newest: u64,
     batch: u32,
 ) -> Result<SearchBody, Fail<BodyFault>>
     requires batch_least { 2 ≤ batch }
     requires batch_most { batch ≤ 1024 }
-    ensures read { Answers result (search_of has_index newest batch body.now) }
+    ensures read { Answers result (search_of has_index batch body.now) }
     ensures within { IfOk result (λ it. IsWithinLimits it.request) }
 {
     let Some(value) = read_data(alloc, filled(body))? else {
         return Err(Fail::Is(BodyFault::NotJson));
     };
-    let named = pit_named(alloc, newest, &value)?;
-    judged(alloc, has_index, named, batch, &value)
+    judged(alloc, has_index, batch, &value)
 }
 
 #[tactic(auto, unfolding(crate::specs::Searches::judged))]
 fn judged(
     alloc: Global,
     has_index: bool,
-    named: Option<u64>,
     batch: u32,
     value: &Value,
 ) -> Result<SearchBody, Fail<BodyFault>>
     requires batch_least { 2 ≤ batch }
     requires batch_most { batch ≤ 1024 }
-    ensures judged { Answers result (judged has_index named batch (view value.now)) }
+    ensures judged { Answers result (judged has_index batch (view value.now)) }
     ensures within { IfOk result (λ it. IsWithinLimits it.request) }
 {
-    if is_unbuilt(named, value) {
-        return Err(Fail::Is(BodyFault::NotBuilt));
-    }
     if !has_form(value) {
         return Err(Fail::Is(BodyFault::Shape));
     }
+    let Some(named) = pit_of(value) else {
+        return Err(Fail::Is(BodyFault::Shape));
+    };
     asked(alloc, has_index, named, batch, value)
 }
 
@@ -92,7 +97,7 @@ fn judged(
 fn asked(
     alloc: Global,
     has_index: bool,
-    named: Option<u64>,
+    named: Option<Named>,
     batch: u32,
     value: &Value,
 ) -> Result<SearchBody, Fail<BodyFault>>
@@ -117,7 +122,7 @@ fn asked(
 fn limited(
     alloc: Global,
     has_index: bool,
-    named: Option<u64>,
+    named: Option<Named>,
     batch: u32,
     span: Span,
     keys: Vec<NamedKey>,
@@ -128,7 +133,7 @@ fn limited(
     ensures limited { Answers result (limited has_index named batch span keys.items query) }
     ensures within { IfOk result (λ it. IsWithinLimits it.request) }
 {
-    if let Some(name) = broken(has_index, named.is_some(), &span, &keys) {
+    if let Some(name) = broken(has_index, named, &span, &keys) {
         return Err(Fail::Is(BodyFault::Limit(name)));
     }
     let Span {
@@ -150,19 +155,48 @@ fn limited(
         slice,
         batch,
     };
-    Ok(SearchBody {
-        request,
-        pit: named,
-    })
+    match body_of(request, named) {
+        Ok(body) => Ok(body),
+        Err(fault) => Err(Fail::Is(fault)),
+    }
+}
+
+// What is asked for, where the text of the point in time is an id.
+fn body_of(request: SearchRequest, named: Option<Named>) -> Result<SearchBody, BodyFault>
+    ensures is { result ≡ body_of request named }
+    ensures same { IfOk result (λ it. it.request ≡ request) }
+{
+    let Some(Named { id, keep }) = named else {
+        return Ok(SearchBody { request, pit: None });
+    };
+    match id_told(id) {
+        Ok(id) => Ok(SearchBody {
+            request,
+            pit: Some(PitRef {
+                id,
+                keep: asked_keep(keep),
+            }),
+        }),
+        Err(fault) => Err(fault),
+    }
 }
 
 // The first limit that is broken.
-fn broken(has_index: bool, in_pit: bool, span: &Span, keys: &[NamedKey]) -> Option<LimitName>
-    ensures first { result ≡ broken has_index in_pit span.now keys.now }
+fn broken(
+    has_index: bool,
+    named: Option<Named>,
+    span: &Span,
+    keys: &[NamedKey],
+) -> Option<LimitName>
+    ensures first { result ≡ broken has_index named span.now keys.now }
     ensures window { IfNone result (span.now.from + span.now.size ≤ 10000) }
     ensures slice { IfNone result (IfSome span.now.slice IsSlice) }
     ensures keys { IfNone result (length keys.now ≤ 64) }
 {
+    if breaks_keep(named) {
+        return Some(LimitName::KeepAlive);
+    }
+    let in_pit = named.is_some();
     if has_index == in_pit || (span.slice.is_some() && !in_pit) {
         return Some(LimitName::Pit);
     }
@@ -182,31 +216,6 @@ fn broken(has_index: bool, in_pit: bool, span: &Span, keys: &[NamedKey]) -> Opti
 }
 
 // ---- members
-
-// The text of the `id` of the `pit`.
-#[tactic(auto, unfolding(crate::specs::Searches::pit_id))]
-fn pit_id(value: &Value) -> Option<&str>
-    ensures { option_map (λ id. id.now) result ≡ pit_id (view value.now) }
-{
-    match value.get("pit") {
-        Some(pit) => match pit.get("id") {
-            Some(id) => id.as_str(),
-            None => None,
-        },
-        None => None,
-    }
-}
-
-// The number of the point in time that is named.
-#[tactic(auto, unfolding(crate::specs::Searches::pit_named))]
-fn pit_named(alloc: Global, newest: u64, value: &Value) -> Result<Option<u64>, NoMemory>
-    ensures { IfOk result (λ named. named ≡ pit_named newest (view value.now)) }
-{
-    match pit_id(value) {
-        Some(id) => pit_number(alloc, newest, id),
-        None => Ok(None),
-    }
-}
 
 fn count_in(usual: u32, count: Option<&Value>) -> Option<u32>
     ensures { result ≡ count_in usual (option_map (λ it. view it.now) count.entry) }
@@ -266,26 +275,6 @@ fn asked_of(alloc: Global, value: &Value) -> Result<Option<Query>, NoMemory>
     }
 }
 
-// ---- what isn't built
-
-// Whether the point in time is kept open longer.
-#[tactic(auto, unfolding(crate::specs::Searches::is_kept_longer))]
-fn is_kept_longer(value: &Value) -> bool
-    ensures { result ≡ is_kept_longer (view value.now) }
-{
-    match value.get("pit") {
-        Some(pit) => pit.get("keep_alive").is_some(),
-        None => false,
-    }
-}
-
-#[tactic(auto, unfolding(crate::specs::Searches::is_unbuilt))]
-fn is_unbuilt(named: Option<u64>, value: &Value) -> bool
-    ensures { result ≡ is_unbuilt named (view value.now) }
-{
-    is_kept_longer(value) || (pit_id(value).is_some() && named.is_none())
-}
-
 // ---- the form
 
 #[tactic(auto, unfolding(crate::specs::Searches::has_form))]
@@ -304,18 +293,7 @@ fn has_form(value: &Value) -> bool
             "slice",
             "track_total_hits",
         ],
-    ) && has_pit_form(value)
-        && has_track_form(value)
-}
-
-#[tactic(auto, unfolding(crate::specs::Searches::has_pit_form))]
-fn has_pit_form(value: &Value) -> bool
-    ensures { result ≡ has_pit_form (view value.now) }
-{
-    match value.get("pit") {
-        Some(pit) => is_form(pit, &["id"]) && pit_id(value).is_some(),
-        None => true,
-    }
+    ) && has_track_form(value)
 }
 
 #[tactic(auto, unfolding(crate::specs::Searches::has_track_form))]

@@ -5,5 +5,5 @@ use Rattle.es_rest.proofs.connection.answer.Goals as goal
 pub returns-clause-answered : goal.returns-clause-answered
 returns-clause-answered g c =
     let s = g.V.Service in
-    answered_by (s.limits c.args.service.now) (s.seat c.args.service.now) c.args.moment c.args.newest c.words_of.result.newest (s.front c.args.service.now) (s.front c.respond-response.new.service)
-    c.args.request.now c.respond-response.result c.words_of.result.text c.respond-response.ensures.responds c.words_of.ensures.said c.words_of.ensures.wanting
+    answered_by (s.limits c.args.service.now) (s.seat c.args.service.now) c.args.moment (s.front c.args.service.now) (s.front c.respond-response.new.service)
+    c.args.request.now c.respond-response.result c.words_of.result c.respond-response.ensures.responds c.words_of.ensures

@@ -1,5 +1,4 @@
 -- The request, its moment and its response.
-use Rattle.es_rest.specs.declared.connection.Session.{Session}
 use Rattle.es_rest.specs.Turns.{words_text}
 use Rattle.es_rest.proofs.Turns.{exchanged_by}
 use Rattle.es_rest.proofs.connection.exchange.Goals as goal
@@ -8,8 +7,7 @@ pub returns-clause-exchanged : goal.returns-clause-exchanged
 returns-clause-exchanged g c =
     let s = g.V.Service in
     let link = g.L.Link in
-    let session : Session = record { newest = c.answer-words.result.newest; moment = c.later-moment.result } in
-    exchanged_by (s.limits c.args.service.now) (s.limits c.answer-words.new.service) (s.seat c.args.service.now) (s.seat c.answer-words.new.service) c.args.session.now session
+    exchanged_by (s.limits c.args.service.now) (s.limits c.answer-words.new.service) (s.seat c.args.service.now) (s.seat c.answer-words.new.service) c.later.result
     (s.front c.args.service.now) (s.front c.answer-words.new.service) (s.front c.tidy_up.new.service) c.args.request.now
-    (words_text c.answer-words.result.text c.args.request.now.last) (link.written c.args.link.now) (link.written c.write_words-written.new.link) c.write_words-written.result
+    (words_text c.answer-words.result c.args.request.now.last) (link.written c.args.link.now) (link.written c.write_words-written.new.link) c.write_words-written.result
     c.answer-words.ensures.limits c.answer-words.ensures.seat c.answer-words.ensures.answered c.write_words-written.ensures.wrote c.tidy_up.ensures.helps

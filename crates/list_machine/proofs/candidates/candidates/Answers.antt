@@ -12,7 +12,7 @@ use Rattle.list_machine.proofs.candidates.candidates.Goals as goal
 pub look_at-requires-clause-few : goal.look_at-requires-clause-few
 look_at-requires-clause-few c =
     All-read (λ (shard : ShardRef). length shard.rows.now ≤ 2147483647) c.args.view.now.shards.now c.loop-at.at c.shard-item.result (omega (arith, c.loop-at-test.true)) c.shard-item.is
-    (All-from_map (λ (rows : List Row). length rows ≤ 2147483647) (λ (shard : ShardRef). shard.rows.now) c.args.view.now.shards.now c.requires.small.rows)
+    (All-from_map (λ (rows : List Row). length rows ≤ 2147483647) (λ (shard : ShardRef). shard.rows.now) c.args.view.now.shards.now c.requires.countable.rows)
 
 pub look_at-requires-clause-bounded : goal.look_at-requires-clause-bounded
 look_at-requires-clause-bounded c =

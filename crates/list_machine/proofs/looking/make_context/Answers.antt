@@ -1,4 +1,4 @@
-use Rattle.std.proofs.Common.{◌≡◌, ℕ, IfOk, List, ap, ap₂, subst, sym, ◌∙◌, map}
+use Rattle.std.proofs.Common.{◌≡◌, ℕ, false, IfOk, List, ap, ap₂, subst, sym, ◌∙◌, map}
 use Rattle.std.proofs.lemmas.Simd.{map-map}
 use Rattle.es_types.specs.declared.mapping.Field.{Field}
 use Rattle.es_types.specs.declared.row.Row.{Row}
@@ -13,7 +13,7 @@ pub returns : goal.returns
 returns c =
     let index = c.args.index.now in
     let context : List ℕ → List Field → List (List Row) → Context =
-    λ name mapping shards. record { number = c.args.number; view = record { index = name; mapping = mapping; shards = shards }; expiry = c.args.expiry } in
+    λ name mapping shards. record { number = c.args.number; view = record { index = name; mapping = mapping; shards = shards }; expiry = c.args.expiry; closed = false } in
     let name : c.name.inside.0 ≡ index.name = c.name.view_is ∙ c.in_ok-name.ensures in
     let lists : map rows_in c.in_ok-shards.shards.items ≡ map (λ (shard : Shard). shard.rows) (map shard_seen index.shards.items) =
     c.in_ok-shards.ensures
@@ -22,4 +22,4 @@ returns c =
     subst (λ (it : Context). IfOk c.make.result (λ made. context_seen made ≡ it))
     (ap₂ (λ name mapping. context name mapping (map rows_in c.in_ok-shards.shards.items)) c.in_ok-name.ensures c.in_ok-mapping.ensures
     ∙ ap (context index.name index.mapping) lists)
-    c.make.ensures.seen
+    c.make.ensures

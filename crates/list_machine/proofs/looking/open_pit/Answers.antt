@@ -1,4 +1,4 @@
-use Rattle.std.proofs.Common.{◌≡◌, ◌≢◌, ℕ, ◌+◌, List, [], ◌∷◌, ◌++◌, ap, sym, ◌∙◌, arith}
+use Rattle.std.proofs.Common.{◌≡◌, ◌≢◌, ℕ, false, ◌+◌, List, [], ◌∷◌, ◌++◌, ap, sym, ◌∙◌, arith}
 use Rattle.std.specs.List.{count_by}
 use Rattle.std.proofs.lemmas.List.{map-append}
 use Rattle.list_machine.specs.declared.event.Reply.{Reply}
@@ -39,7 +39,7 @@ returns-clause-ok c =
     c.live_contexts.ensures ∙ ap (λ contexts. count_by (is_live c.args.moment) (contexts_seen contexts)) c.deref-2.ensures.value in
     let room : live_contexts seen ≢ seen.limits.pits = λ full. c.if-live_contexts-limit.false (count ∙ full) in
     let expiry : c.millis.result + c.millis-2.result ≡ c.args.moment + c.args.keep.now = omega arith in
-    let made : ℕ → Context = λ at. record { number = store.next; view = view_of (index_seen index); expiry = at } in
+    let made : ℕ → Context = λ at. record { number = store.next; view = view_of (index_seen index); expiry = at; closed = false } in
     let contexts : contexts_seen c.push.new.self.items ≡ contexts_seen store.contexts.items ++ made (c.args.moment + c.args.keep.now) ∷ [] =
     ap contexts_seen c.in_ok-push.ensures.items
     ∙ map-append context_seen store.contexts.items (c.in_ok-context.context ∷ [])

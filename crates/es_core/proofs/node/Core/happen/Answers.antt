@@ -1,7 +1,11 @@
 use Rattle.std.proofs.Common.{ap, refl, ◌∙◌}
 use Rattle.list_machine.specs.declared.event.Event.TheVariants.{Search}
 use Rattle.list_machine.specs.declared.event.Target.{Target}
-use Rattle.es_core.proofs.StepLemmas.{moved_any, moved_done, search_done, stayed_done}
+use Rattle.context_book.specs.Books.{Book}
+use Rattle.es_core.specs.Contexts.{contexts_seen}
+use Rattle.es_core.proofs.ContextLemmas.{closed_seen}
+use Rattle.es_core.proofs.Searches.{seen_rises}
+use Rattle.es_core.proofs.StepLemmas.{close_done, moved_any, moved_done, search_done, stayed_done}
 use Rattle.es_core.proofs.node.Core.happen.Goals as goal
 
 pub returns-in-Create-clause-steps : goal.returns-in-Create-clause-steps
@@ -28,4 +32,17 @@ returns-in-Index-clause-steps c =
 pub returns-in-Pit-clause-steps : goal.returns-in-Pit-clause-steps
 returns-in-Pit-clause-steps c =
     let is = c.in-Search.is ∙ ap (λ (it : Target). Search it c.in-Search.request) c.in-Pit.is in
-    search_done c.args.self.now _ c.args.moment c.args.event.now c.in-Pit.number c.in-Search.request is (record { limits_are = refl; next = refl; book = refl }) refl c.search_pit.result c.search_pit.ensures
+    search_done c.args.self.now _ c.args.moment c.args.event.now c.in-Pit.number c.in-Pit.keep c.in-Search.request is (record { limits_are = refl; next = refl; indexes = refl })
+    (seen_rises c.args.self.now.book.contexts c.search_pit.ensures.rise) c.search_pit.result c.search_pit.ensures.reply c.search_pit.ensures.kept
+
+pub invariant_of-self-in-Close : goal.invariant_of-self-in-Close
+invariant_of-self-in-Close c =
+    let core = c.args.self.now in
+    record { placed = core.placed; issued = c.close.ensures.numbers core.next core.issued; limited = c.close.ensures.limit ∙ core.limited }
+
+pub returns-in_ok-freed-in-Close-clause-steps : goal.returns-in_ok-freed-in-Close-clause-steps
+returns-in_ok-freed-in-Close-clause-steps c =
+    let core = c.args.self.now in
+    close_done core _ c.args.moment c.args.event.now c.in-Close.which c.in_ok-freed-in-Close.freed c.in-Close.is (record { limits_are = refl; next = refl; indexes = refl })
+    c.in_ok-freed-in-Close.ensures.freed
+    (ap (λ (book : Book). contexts_seen book.contexts) c.in_ok-freed-in-Close.ensures.kept ∙ closed_seen c.args.moment c.in-Close.which core.book.contexts)

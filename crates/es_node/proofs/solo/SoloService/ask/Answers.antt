@@ -10,7 +10,9 @@ pub returns-then-len-self-clause-asked : goal.returns-then-len-self-clause-asked
 returns-then-len-self-clause-asked c =
     let s = c.self.inside in
     let P : Journal → Type 0 = λ j. Asked j.limits 0 4 j.history j.history (asked 0 c.args.moment c.args.event) Spent in
-    subst P c.self.view_is (spent s.limits c.args.moment c.args.event s.journal.items c.self.invariant.kept (omega (arith, c.if-len-self.true, c.len.ensures)))
+    subst P c.self.view_is
+    (spent s.limits c.args.moment c.args.event s.journal.items c.self.invariant.kept
+    (omega (arith, c.if-len-self.true, c.len.ensures)))
 
 pub advance-requires-clause-object : goal.advance-requires-clause-object
 advance-requires-clause-object c = askable_object _ _ c.args.event c.requires
@@ -21,18 +23,25 @@ advance-requires-clause-bounded c = askable_bounded _ _ c.args.event c.requires
 pub invariant_of-self : goal.invariant_of-self
 invariant_of-self c =
     let s = c.self.inside in
-    runs_on s.limits c.args.moment c.args.event s.core c.advance.new.core s.journal.items c.advance.new.journal.items c.advance.result c.self.invariant (omega (arith, c.if-len-self.false, c.len.ensures))
-    (askable_object _ _ c.args.event c.requires) c.advance.ensures.advances c.advance.ensures.journal c.advance.ensures.core_kept c.advance.ensures.journal_kept
+    runs_on s.limits c.args.moment c.args.event s.core c.advance.new.core s.journal.items c.advance.new.journal.items
+    c.advance.result c.self.invariant (omega (arith, c.if-len-self.false, c.len.ensures))
+    (askable_object _ _ c.args.event c.requires) c.advance.ensures.advances c.advance.ensures.journal c.advance.ensures.core_kept
+    c.advance.ensures.journal_kept
 
 pub returns-clause-asked : goal.returns-clause-asked
 returns-clause-asked c =
     let s = c.self.inside in
-    rw (← c.self.view_is) (stepped s.limits c.args.moment c.args.event s.core c.advance.new.core s.journal.items c.advance.new.journal.items c.advance.result c.self.invariant (omega (arith, c.if-len-self.false, c.len.ensures))
+    rw (← c.self.view_is)
+    (stepped s.limits c.args.moment c.args.event s.core c.advance.new.core s.journal.items c.advance.new.journal.items
+    c.advance.result c.self.invariant (omega (arith, c.if-len-self.false, c.len.ensures))
     c.advance.ensures.advances c.advance.ensures.journal c.advance.ensures.journal_kept)
 
 pub returns-clause-kept : goal.returns-clause-kept
 returns-clause-kept c =
     let s = c.self.inside in
-    let r : IsRunning s.limits c.advance.new.core c.advance.new.journal.items = runs_on s.limits c.args.moment c.args.event s.core c.advance.new.core s.journal.items c.advance.new.journal.items c.advance.result c.self.invariant (omega (arith, c.if-len-self.false, c.len.ensures))
-    (askable_object _ _ c.args.event c.requires) c.advance.ensures.advances c.advance.ensures.journal c.advance.ensures.core_kept c.advance.ensures.journal_kept in
+    let r : IsRunning s.limits c.advance.new.core c.advance.new.journal.items
+    = runs_on s.limits c.args.moment c.args.event s.core c.advance.new.core s.journal.items c.advance.new.journal.items
+    c.advance.result c.self.invariant (omega (arith, c.if-len-self.false, c.len.ensures))
+    (askable_object _ _ c.args.event c.requires) c.advance.ensures.advances c.advance.ensures.journal c.advance.ensures.core_kept
+    c.advance.ensures.journal_kept in
     r.kept

@@ -1,0 +1,4 @@
+pub mod Rising
+pub mod Edits
+pub mod Parting
+pub mod Small

@@ -1,0 +1,22 @@
+use Rattle.std.proofs.Common.{Option, ℕ, true, ◌+◌, ◌<◌, All, ap, arith, subst, sym, ◌∙◌}
+use Rattle.context_book.specs.declared.context.Context.{Context}
+use Rattle.context_book.specs.Books.{Book}
+use Rattle.es_core.specs.Contexts.{contexts_seen, kept_longer}
+use Rattle.es_core.proofs.Searches.{kept_numbers, kept_seen, touched}
+use Rattle.es_core.proofs.contexts.keep_longer.Goals as goal
+
+pub returns-in-Some-clause-kept : goal.returns-in-Some-clause-kept
+returns-in-Some-clause-kept c =
+    let book = c.args.book.now in
+    let now = touched c.args.number c.args.moment (c.millis.result + c.millis-in-Some.result) c.in-Some.keep book c.touch.new.self c.touch.result (omega arith)
+    c.touch.ensures.missing c.requires c.touch.ensures.ok in
+    ap (λ (it : Book). contexts_seen it.contexts) now
+    ∙ kept_seen c.args.moment c.args.number c.in-Some.keep book.contexts
+    ∙ ap (λ (keep : Option ℕ). kept_longer c.args.moment c.args.number keep true (contexts_seen book.contexts)) (sym c.in-Some.is)
+
+pub returns-in-Some-clause-numbers : goal.returns-in-Some-clause-numbers
+returns-in-Some-clause-numbers c next below =
+    let book = c.args.book.now in
+    let now = touched c.args.number c.args.moment (c.millis.result + c.millis-in-Some.result) c.in-Some.keep book c.touch.new.self c.touch.result (omega arith)
+    c.touch.ensures.missing c.requires c.touch.ensures.ok in
+    subst (λ (it : Book). All (λ (context : Context). context.number < next) it.contexts) (sym now) (kept_numbers next c.args.number (c.args.moment + c.in-Some.keep) book.contexts below)

@@ -1,0 +1,34 @@
+ghost use Rattle.std.specs.Prelude.{◌≡◌};
+ghost use Rattle.es_rest.specs.Moments.{is_unreadable, moment_of, told_moment};
+
+use es_types::Moment;
+use http_wire::{Request, number};
+
+/// The last moment, 2^53.
+const LAST: u64 = 9_007_199_254_740_992;
+
+fn moment_of(text: &[u8]) -> Option<Moment>
+    ensures { result ≡ moment_of text.now }
+{
+    match number(text, 16, LAST) {
+        Some(millis) => Moment::make(millis),
+        None => None,
+    }
+}
+
+/// The moment that a request hands in, where it hands in one that is readable.
+pub fn told_moment(request: &Request) -> Option<Moment>
+    ensures { result ≡ told_moment request.now }
+{
+    match &request.moment {
+        Some(text) => moment_of(text.as_slice()),
+        None => None,
+    }
+}
+
+/// Whether a request hands in what isn't readable.
+pub fn is_unreadable(request: &Request) -> bool
+    ensures { result ≡ is_unreadable request.now }
+{
+    request.moment.is_some() && told_moment(request).is_none()
+}
