@@ -6,8 +6,9 @@ use crate::fields::mapping_of_n;
 use crate::replies::page_text;
 use crate::values::braces;
 use es_types::{Items, NoMemory, Op, Row};
-use list_machine::{Answer, Reply, ViewRef, apply_ops, docs, search_view};
+use list_machine::{Answer, Reply, ViewRef, apply_ops, docs, enter, lasts_of, search_view};
 use std::alloc::Global;
+use std::collections::BTreeSet;
 use std::test::Fail;
 
 fn put_op(alloc: Global, id: &str) -> Result<Op, Fail> {
@@ -22,7 +23,8 @@ fn applied(alloc: Global, ops: Vec<Op>) -> Result<Vec<Row>, NoMemory>
     requires { vec_len ops ≤ 4 }
 {
     let mut rows = Vec::with_capacity(alloc, 4)?;
-    apply_ops(&mut rows, 6, ops);
+    let lasts = lasts_of(alloc, &ops)?;
+    apply_ops(&mut rows, 6, ops, lasts);
     Ok(rows)
 }
 
@@ -38,6 +40,16 @@ fn empty_page(alloc: Global) -> Result<Answer, Fail> {
         Reply::Found(answer) => Ok(answer),
         _ => Err("a page")?,
     }
+}
+
+#[test]
+fn an_id_is_new_once(rt: HostRuntime) -> Result<(), Fail> {
+    let alloc = rt.alloc();
+    let mut ids = BTreeSet::new(alloc);
+    let id = doc_id(alloc, "a")?;
+    assert!(rt; enter(alloc, &mut ids, &id)?);
+    assert!(rt; !enter(alloc, &mut ids, &id)?);
+    Ok(())
 }
 
 #[test]

@@ -62,11 +62,6 @@ has_id-push rows base ops op id =
     ap (has_id id) (sym (apply_all-append rows base ops (op ∷ [])))
     ∙ has_id-apply (apply_all rows base ops) (base + length ops + 1) op id
 
--- an id that is entered stands
-pub cond-or : (b stood : Bool) → cond b true stood ≡ (b || stood)
-cond-or true stood = refl
-cond-or false stood = refl
-
 -- an id that is removed doesn't stand
 pub cond-and : (b stood : Bool) → cond b false stood ≡ (not b && stood)
 cond-and true stood = refl

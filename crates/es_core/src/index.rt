@@ -71,7 +71,7 @@ impl Index {
     }
 
     /// Applies the operations of a shard up to a number. After an error nothing has changed.
-    pub fn publish(&mut self, at: u32, upto: u64) -> Result<(), NoMemory>
+    pub fn publish(&mut self, alloc: Global, at: u32, upto: u64) -> Result<(), NoMemory>
         ensures like { IsLike self.old self.new }
         ensures ok { OnOk result (self.new.shards.items ≡ publish_in self.old.shards.items at upto) }
         ensures err { OnErr result (self.new.shards.items ≡ self.old.shards.items) }
@@ -80,7 +80,7 @@ impl Index {
             return Ok(());
         }
         self.view = None;
-        self.shards[at as usize].publish(upto)
+        self.shards[at as usize].publish(alloc, upto)
     }
 
     /// What a reader sees of the index as it is now. Readers made between two publishes share it.

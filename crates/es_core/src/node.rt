@@ -102,7 +102,14 @@ impl Core {
             ),
             Event::Seal { index } => seal(self.alloc, &self.places, &self.indexes, index),
             Event::Publish { index, shard, upto } => {
-                publish(&self.places, &mut self.indexes, index, *shard, *upto)
+                publish(
+                    self.alloc,
+                    &self.places,
+                    &mut self.indexes,
+                    index,
+                    *shard,
+                    *upto,
+                )
             }
             Event::OpenPit { index, keep } => self.open_pit(moment, index, keep),
             Event::Search { target, request } => match target {

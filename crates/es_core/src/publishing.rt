@@ -8,11 +8,13 @@ use crate::index::Index;
 use crate::places::place_of;
 use es_types::{IndexName, NoMemory};
 use list_machine::Reply;
+use std::alloc::Global;
 use std::collections::BTreeMap;
 
 /// Applies the operations of a shard up to a number. A shard that isn't there, or a number that no operation has
 /// yet, changes nothing.
 pub fn publish(
+    alloc: Global,
     places: &BTreeMap<String, usize>,
     indexes: &mut Vec<Index>,
     name: &IndexName,
@@ -27,6 +29,6 @@ pub fn publish(
     let Some(at) = place_of(places, name) else {
         return Ok(Reply::Done);
     };
-    indexes[at].publish(shard, upto)?;
+    indexes[at].publish(alloc, shard, upto)?;
     Ok(Reply::Done)
 }

@@ -1,12 +1,12 @@
-ghost use Rattle.std.specs.Prelude.{◌≡◌, ◌+◌, ◌<◌, ◌≤◌, ◌^◌, ◌-◌, ◌||◌, ℕ, List, [], false, length, min, not, bytes_eq, IfOk, OnOk, OnErr};
+ghost use Rattle.std.specs.Prelude.{◌≡◌, ◌+◌, ◌<◌, ◌≤◌, ◌^◌, ◌-◌, ℕ, List, [], false, length, min, IfOk, OnOk, OnErr};
 ghost use Rattle.std.specs.BTreeSet.{contains_text};
 ghost use Rattle.list_machine.specs.Rows.{has_id, last_number as last_number_of, rows_to_come};
 ghost use Rattle.list_machine.specs.State.{id_of};
 ghost use Rattle.list_machine.specs.Step.{append_op, is_full as is_full_shard, shard_limit};
 ghost use Rattle.es_core.specs.Standing.{did, is_refused, publish_of, stands_after};
 
-use es_types::{Copied, DocId, Fail, NoMemory, Op, Row};
-use list_machine::{Wrote, apply_ops};
+use es_types::{Fail, NoMemory, Op, Row, copy_all};
+use list_machine::{Wrote, apply_ops, enter, lasts_of};
 use std::alloc::Global;
 use std::collections::BTreeSet;
 use std::marker::Model;
@@ -67,7 +67,7 @@ impl Shard {
         ensures rows { IfOk result (λ rows. rows.items ≡ self.now.rows) }
         ensures few { IfOk result (λ rows. length rows.items ≤ shard_limit) }
     {
-        copy_rows(alloc, &self.rows)
+        copy_all(alloc, &self.rows)
     }
 
     /// Adds an operation, and says what it did and its number. After an error nothing has changed.
@@ -108,7 +108,8 @@ impl Shard {
     }
 
     /// Applies the operations up to a number. A number that no operation has yet changes nothing.
-    pub fn publish(&mut self, upto: u64) -> Result<(), NoMemory>
+    /// All memory is taken before the first change.
+    pub fn publish(&mut self, alloc: Global, upto: u64) -> Result<(), NoMemory>
         ensures ok { OnOk result (self.new ≡ publish_of self.old upto) }
         ensures err { OnErr result (self.new ≡ self.old) }
     {
@@ -116,23 +117,14 @@ impl Shard {
             return Ok(());
         }
         let count = (upto - self.base) as usize;
+        let lasts = lasts_of(alloc, &self.pending[..count])?;
         self.rows.reserve(count)?;
         let waiting = self.pending.split_off(count)?;
         let ops = mem::replace(&mut self.pending, waiting);
-        apply_ops(&mut self.rows, self.base, ops);
+        apply_ops(&mut self.rows, self.base, ops, lasts);
         self.base = upto;
         Ok(())
     }
-}
-
-fn copy_rows(alloc: Global, rows: &[Row]) -> Result<Vec<Row>, NoMemory>
-    ensures { IfOk result (λ copies. copies.items ≡ rows.now) }
-{
-    let mut copies = Vec::with_capacity(alloc, rows.len())?;
-    for row in rows {
-        copies.push(row.copy(alloc)?)?;
-    }
-    Ok(copies)
 }
 
 /// Brings the ids that stand up to an operation, and says what it did.
@@ -153,18 +145,4 @@ fn mark(alloc: Global, standing: &mut BTreeSet<String>, op: &Op) -> Result<Wrote
             Wrote::NotFound
         }),
     }
-}
-
-/// Enters an id, and says whether it is new.
-fn enter(alloc: Global, standing: &mut BTreeSet<String>, id: &DocId) -> Result<bool, NoMemory>
-    ensures is_new { IfOk result (λ it. it ≡ not (contains_text standing.old id.now)) }
-    ensures after { OnOk result ((other : List ℕ) → contains_text standing.new other ≡ (bytes_eq id.now other || contains_text standing.old other)) }
-    ensures err { OnErr result ((other : List ℕ) → contains_text standing.new other ≡ contains_text standing.old other) }
-{
-    let text = id.text().as_str();
-    if standing.contains(text) {
-        return Ok(false);
-    }
-    standing.insert(String::from_str(alloc, text)?)?;
-    Ok(true)
 }

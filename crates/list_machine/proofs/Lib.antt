@@ -8,6 +8,7 @@ pub mod ContextLemmas
 pub mod Freed
 pub mod CountLemmas
 pub mod ShardLemmas
+pub mod ApplyLemmas
 pub mod ContextMoves
 pub mod Moves
 pub mod IndexMoves

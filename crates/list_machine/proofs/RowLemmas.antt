@@ -1,5 +1,5 @@
 -- What operations make of rows, one at a time.
-use Rattle.std.proofs.Common.{◌≡◌, ℕ, ◌+◌, ◌<◌, Bool, true, false, not, ◌&&◌, ◌||◌, List, [], ◌∷◌, ◌++◌, length, take, get_or, sym, refl, ap, ◌∙◌, arith}
+use Rattle.std.proofs.Common.{◌≡◌, ℕ, ◌+◌, ◌<◌, Bool, true, false, cond, not, ◌&&◌, ◌||◌, List, [], ◌∷◌, ◌++◌, length, take, get_or, sym, refl, ap, ◌∙◌, arith}
 use Rattle.std.specs.Str.{bytes_eq}
 use Rattle.std.proofs.lemmas.Slice.Eq.{bytes_eq-Decides}
 use Rattle.std.proofs.lemmas.Bool.Decides.{same_from_decides}
@@ -62,3 +62,8 @@ pub has_id_more : (rows : List Row) (base : ℕ) (ops : List Op) (i : ℕ) (op :
 has_id_more rows base ops i op id less is =
     ap (has_id id) (apply_all_more rows base ops i op less is)
     ∙ has_id-apply (apply_all rows base (take i ops)) _ op id
+
+-- an id that is entered stands
+pub cond-or : (b stood : Bool) → cond b true stood ≡ (b || stood)
+cond-or true stood = refl
+cond-or false stood = refl

@@ -4,6 +4,7 @@ pub mod Views
 pub mod Objects
 pub mod State
 pub mod Step
+pub mod Lasts
 pub mod Run
 pub mod Pages
 pub mod Sliced

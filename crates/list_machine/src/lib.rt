@@ -21,6 +21,7 @@ mod service;
 mod store;
 mod view;
 mod writing;
+mod written;
 
 pub use event::{Change, Entry, Event, Limits, Reply, Target, Which, Wrote};
 pub use first::docs;
@@ -32,3 +33,4 @@ pub use searching::search_view;
 pub use service::Service;
 pub use view::{ShardRef, ViewRef};
 pub use writing::make_op;
+pub use written::{Lasts, enter, lasts_of};

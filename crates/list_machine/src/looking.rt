@@ -8,7 +8,7 @@ ghost use Rattle.list_machine.specs.Stores.{IsCountedIndex, contexts_seen, conte
 use crate::Reply;
 use crate::context::ContextStore;
 use crate::store::{IndexStore, ShardStore, Store, last_number, place_of};
-use es_types::{Copied, IndexName, Items, KeepAlive, Moment, NoMemory, Row};
+use es_types::{Copied, IndexName, Items, KeepAlive, Moment, NoMemory, Row, copy_all};
 use std::alloc::Global;
 
 /// The number of the last operation of each shard.
@@ -88,17 +88,7 @@ fn copy_shards(alloc: Global, shards: &[ShardStore]) -> Result<Vec<Vec<Row>>, No
 {
     let mut copies = Vec::with_capacity(alloc, shards.len())?;
     for shard in shards {
-        copies.push(copy_rows(alloc, &shard.rows)?)?;
-    }
-    Ok(copies)
-}
-
-fn copy_rows(alloc: Global, rows: &[Row]) -> Result<Vec<Row>, NoMemory>
-    ensures { IfOk result (λ copies. copies.items ≡ rows.now) }
-{
-    let mut copies = Vec::with_capacity(alloc, rows.len())?;
-    for row in rows {
-        copies.push(row.copy(alloc)?)?;
+        copies.push(copy_all(alloc, &shard.rows)?)?;
     }
     Ok(copies)
 }

@@ -98,7 +98,7 @@ fn reply_to(
         Event::Write { index, id, change } => write(alloc, &mut store.indexes, index, id, change),
         Event::Seal { index } => seal(alloc, &store.indexes, index),
         Event::Publish { index, shard, upto } => {
-            publish(&mut store.indexes, index, *shard, *upto)
+            publish(alloc, &mut store.indexes, index, *shard, *upto)
         }
         Event::OpenPit { index, keep } => open_pit(alloc, store, moment, index, keep),
         Event::Search { target, request } => search(alloc, store, moment, target, request),
