@@ -1,5 +1,7 @@
 #!/usr/bin/env python3
 """Measures the built program over large inputs: seconds, MB/s and peak memory. Run by hand: bench/wire.py"""
+import base64
+import json
 import os
 import subprocess
 import sys
@@ -60,6 +62,50 @@ def openings(documents, count):
     yield from request(b"POST /t/_bulk?refresh", lines)
     for _ in range(count):
         yield from request(b"POST /t/_pit?keep_alive=1m")
+
+
+def pit_id(number):
+    return base64.urlsafe_b64encode(b"P" + number.to_bytes(8, "big"))
+
+
+def generated(count):
+    """Bulks of 500 documents, each but the first with a removal, and a refresh and a point in time behind each. Then all documents of
+    the keyword `g0` that each point in time sees, in pages of 50; the points in time are closed, and the documents counted."""
+    fields = b'"n":{"type":"long"},"g":{"type":"keyword"}'
+    yield from request(b"PUT /gen", b'{"settings":{"number_of_shards":2},"mappings":{"properties":{%s}}}' % fields)
+    for bulk in range(count):
+        numbers = range(500 * bulk, 500 * bulk + 500)
+        lines = b"".join(b'{"index":{"_id":"d%d"}}\n{"n":%d,"g":"g%d"}\n' % (n, n, n % 1000) for n in numbers)
+        removal = b'{"delete":{"_id":"d%d"}}\n' % (500 * bulk - 499) if bulk else b""
+        yield from request(b"POST /gen/_bulk", lines, removal)
+        yield from request(b"POST /gen/_refresh")
+        yield from request(b"POST /gen/_pit?keep_alive=1d")
+    for pit in range(count):
+        query = b'"size":50,"query":{"term":{"g":"g0"}},"sort":["n"]'
+        for page in range((pit // 2 + 1) // 50 + 1):
+            after = b',"search_after":[%d,9007199254740992]' % (1000 * (50 * page - 1)) if page else b""
+            yield from request(b"POST /_search", b'{"pit":{"id":"%s"},%s%s}' % (pit_id(pit + 1), query, after))
+    for pit in range(count):
+        yield from request(b"DELETE /_pit", b'{"id":"%s"}' % pit_id(pit + 1))
+    yield from request(b"POST /gen/_search", b'{"size":0}')
+
+
+def generated_line(sink):
+    """What is counted over the responses to `generated`."""
+    requests = refused = documents = pages = hits = 0
+    while line := sink.readline():
+        requests += 1
+        refused += int(line.split()[1]) >= 400
+        while (line := sink.readline()) != b"\r\n":
+            if line.startswith(b"content-length:"):
+                length = int(line.split(b":")[1])
+        body = json.loads(sink.read(length))
+        if "hits" in body:
+            documents = body["hits"]["total"]["value"]
+        if "pit_id" in body:
+            pages += 1
+            hits += len(body["hits"]["hits"])
+    return "requests=%d refused=%d documents=%d pages=%d hits=%d" % (requests, refused, documents, pages, hits)
 
 
 def small_puts(count):
@@ -150,8 +196,8 @@ def served(sink):
     return count
 
 
-def measure(pieces):
-    """The bytes of the input, seconds, and the peak memory of the run in bytes."""
+def measure(pieces, look=served):
+    """The bytes of the input, seconds, the peak memory of the run in bytes, how many requests there are, and what is seen in the output."""
     with tempfile.TemporaryFile() as source, tempfile.TemporaryFile() as sink:
         requests = 0
         for piece in pieces:
@@ -164,10 +210,10 @@ def measure(pieces):
         _, status, usage = os.wait4(child.pid, 0)
         seconds = time.monotonic() - began
         sink.seek(0)
-        good = served(sink)
-    if status != 0 or good != requests:
-        sys.exit("status %d, and %d of %d requests were served" % (status, good, requests))
-    return size, seconds, usage.ru_maxrss * 1024
+        seen = look(sink)
+    if status != 0:
+        sys.exit("status %d" % status)
+    return size, seconds, usage.ru_maxrss * 1024, requests, seen
 
 
 def processor():
@@ -179,7 +225,9 @@ def table(rows):
     print("\n| input | bytes | seconds | MB/s | peak MiB |\n|---|---|---|---|---|")
     found = {}
     for name, pieces in rows:
-        size, seconds, peak = measure(pieces)
+        size, seconds, peak, requests, good = measure(pieces)
+        if good != requests:
+            sys.exit("%s: %d of %d requests were served" % (name, good, requests))
         found[name] = (size, seconds, peak)
         print("| %s | %d | %.3f | %.1f | %.1f |" % (name, size, seconds, size / seconds / 1e6, peak / MIB))
     return found
@@ -246,6 +294,13 @@ def main():
         memory = many[2] - one[2]
         print("399 further openings of %s documents: %.1f ms, %.2f MiB (at most 2)" % (documents, (many[1] - one[1]) * 1000, memory / MIB))
         failed = failed or memory > 2 * MIB
+    for count, line in (
+        (4, "requests=22 refused=0 documents=1997 pages=4 hits=6"),
+        (40, "requests=202 refused=0 documents=19961 pages=40 hits=420"),
+    ):
+        _, seconds, _, _, seen = measure(generated(count), generated_line)
+        print("%d bulks of 500: %s in %.3f s" % (count, seen, seconds))
+        failed = failed or seen != line
     print("20,000 small puts: %d requests a second" % (20000 / found["20,000 small puts"][1]))
     sys.exit(failed)
 

@@ -2,6 +2,7 @@ ghost use Rattle.std.specs.Prelude.{◌≡◌};
 ghost use Rattle.context_book.specs.declared.context.LendFault.TheVariants.{NoMemory};
 
 use crate::View;
+use es_sort::Keys;
 use es_types::NoMemory;
 use reader_gate::Owner;
 
@@ -11,6 +12,13 @@ pub struct Context {
     pub number: u64,
     pub owner: Owner<View>,
     pub expiry: u64,
+}
+
+/// How far the pages of a scroll are known: behind so many of them, the key of the last hit, where there was one.
+#[derive(Drop)]
+pub struct PageEnd {
+    pub pages: u64,
+    pub after: Option<Keys>,
 }
 
 /// No point in time of that number is live.

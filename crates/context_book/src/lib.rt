@@ -10,6 +10,6 @@ mod shard_view;
 mod view;
 
 pub use book::ContextBook;
-pub use context::{Context, LendFault, Missing, Refused, Why};
+pub use context::{Context, LendFault, Missing, PageEnd, Refused, Why};
 pub use shard_view::ShardView;
 pub use view::View;

@@ -248,7 +248,7 @@ fn find(alloc: Global, line: &str) -> Result<Event, Fail>
 // What a line asks for, behind its milliseconds. An index is made with five shards and the whole number `n`, and a
 // search is for two documents, behind a place where it has one:
 // create INDEX, put INDEX ID [n=N], remove INDEX ID, publish INDEX SHARD UPTO, open INDEX [TIME], search PIT [PLACE],
-// keep PIT TIME [PLACE], close PIT.., slice PIT ID MAX, find INDEX FIELD VALUE, order INDEX FIELD asc|desc [VALUE], seal INDEX, quiet
+// keep PIT TIME [PLACE], close PIT.., slice PIT ID MAX, find INDEX FIELD VALUE, order INDEX FIELD asc|desc [VALUE], seal INDEX, quiet [end]
 pub(crate) fn event(alloc: Global, line: &str) -> Result<Event, Fail>
     ensures object { IfOk result PutsObject }
     ensures bounded { IfOk result IsBounded }

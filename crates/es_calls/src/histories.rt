@@ -1,14 +1,16 @@
 //! Histories of `list_machine` and `es_core`: both give the same replies to the same events.
-ghost use Rattle.std.specs.Prelude.{◌≡◌, ◌+◌, ◌<◌, ◌^◌, OnOk};
+ghost use Rattle.std.specs.Prelude.{◌≡◌, ◌+◌, ◌<◌, ◌^◌, IfOk, OnOk};
 ghost use Rattle.list_machine.specs.Run.{IsBounded, PutsObject};
+ghost use Rattle.es_core.specs.Plans.{CanAnswer, CanRun};
 
 use crate::events::{event, moment};
 use crate::replies::said;
-use es_core::{Brought, Chore, Core, Turned};
+use context_book::PageEnd;
+use es_core::{Brought, Chore, Core, Plan, Turned};
 use es_types::{Moment, NoMemory};
 use list_machine::{
-    Entry, Event, Limits, Machine, Reply, one_enumeration, pages_in_turn, slices_share_out,
-    sound_states,
+    Entry, Event, Limits, Machine, Reply, ViewRef, answer, one_enumeration, pages_in_turn,
+    slices_share_out, sound_states,
 };
 use slice_rule::each_place_has_a_slice;
 use std::alloc::Global;
@@ -24,17 +26,56 @@ fn take_step(machine: &mut Machine, entry: Entry) -> Result<Reply, NoMemory>
     machine.step(&entry)
 }
 
-// A quiet lets go what is live no more, which no reply shows.
-fn take_quiet(core: &mut Core, moment: Moment) -> Result<Reply, NoMemory> {
-    let _ = core.quiet(Chore::Reap, moment)?;
+// A quiet lets go what is live no more, which no reply shows, or notes the end of a scroll that isn't there.
+fn take_quiet(core: &mut Core, moment: Moment, reaps: bool) -> Result<Reply, NoMemory> {
+    let chore = if reaps {
+        Chore::Reap
+    } else {
+        let end = PageEnd {
+            pages: 1,
+            after: None,
+        };
+        Chore::NoteEnd { number: 1, end }
+    };
+    let _ = core.quiet(chore, moment)?;
     Ok(Reply::Done)
 }
 
 fn take_turn(core: &mut Core, event: Event, moment: Moment) -> Result<Turned, NoMemory>
     requires object { PutsObject event }
     requires bounded { IsBounded event }
+    ensures { IfOk result CanAnswer }
 {
     core.turn(&event, moment, Brought::Nothing)
+}
+
+// The page of a plan.
+fn run(alloc: Global, plan: Plan) -> Result<Reply, NoMemory>
+    requires { CanRun plan }
+{
+    let Plan::Page {
+        pass,
+        request,
+        pages: _,
+        end: _,
+    } = plan;
+    let view = pass.body();
+    let shards = view.shard_refs(alloc)?;
+    let view = ViewRef {
+        index: view.index(),
+        mapping: view.mapping(),
+        shards: &shards,
+    };
+    Ok(Reply::Found(answer(alloc, &view, &request)?))
+}
+
+fn reply_to(alloc: Global, turned: Turned) -> Result<Reply, NoMemory>
+    requires { CanAnswer turned }
+{
+    match turned {
+        Turned::Now(reply) => Ok(reply),
+        Turned::Later(plan) => run(alloc, plan),
+    }
 }
 
 fn ask_machine(alloc: Global, machine: &mut Machine, asked: &str) -> Result<Reply, Fail>
@@ -49,12 +90,11 @@ fn ask_machine(alloc: Global, machine: &mut Machine, asked: &str) -> Result<Repl
 
 fn ask_core(alloc: Global, core: &mut Core, asked: &str) -> Result<Reply, Fail> {
     let moment = moment(asked)?;
-    if asked.ends_with(" quiet") {
-        return Ok(take_quiet(core, moment)?);
+    if asked.contains(" quiet") {
+        return Ok(take_quiet(core, moment, asked.ends_with(" quiet"))?);
     }
     let event = event(alloc, asked)?;
-    let Turned::Now(reply) = take_turn(core, event, moment)?;
-    Ok(reply)
+    Ok(reply_to(alloc, take_turn(core, event, moment)?)?)
 }
 
 // Each line begins with milliseconds and ends with the reply that it has to have of both.
@@ -139,6 +179,10 @@ const KEPT: &str = "
 300000 keep 1 1h x -> bad after
 300000 quiet -> done
 300000 open docs -> too many 1
+300000 quiet end -> done
+299999 open docs -> too many 1
+300001 quiet end -> done
+300000 search 1 -> missing
 300001 quiet -> done
 300001 search 1 -> missing
 300001 keep 1 1h -> missing

@@ -1,12 +1,13 @@
-//! The calls that `list_machine` lends to the core.
+//! The calls that `list_machine` lends to the core and to what runs its plans.
 ghost use Rattle.std.specs.Prelude.{◌≤◌, vec_len};
 
 use crate::events::{by_place, doc_id};
 use crate::fields::mapping_of_n;
 use crate::replies::page_text;
 use crate::values::braces;
-use es_types::{Items, NoMemory, Op, Row};
-use list_machine::{Answer, Reply, ViewRef, apply_ops, docs, enter, lasts_of, search_view};
+use es_sort::Keys;
+use es_types::{Copied, Items, NoMemory, Op, Row, Value};
+use list_machine::{Answer, Reply, ViewRef, answer, apply_ops, docs, enter, lasts_of, refused};
 use std::alloc::Global;
 use std::collections::BTreeSet;
 use std::test::Fail;
@@ -28,17 +29,31 @@ fn applied(alloc: Global, ops: Vec<Op>) -> Result<Vec<Row>, NoMemory>
     Ok(rows)
 }
 
-// The first page of a view without shards.
+// The first page of a view without shards, which is asked for by a copy of the request.
 fn empty_page(alloc: Global) -> Result<Answer, Fail> {
     let view = ViewRef {
         index: &docs(alloc)?,
         mapping: &mapping_of_n(alloc)?,
         shards: &[],
     };
-    let request = by_place(alloc, None, None);
-    match search_view(alloc, &view, &request)? {
-        Reply::Found(answer) => Ok(answer),
-        _ => Err("a page")?,
+    let request = by_place(alloc, None, None).copy(alloc)?;
+    Ok(answer(alloc, &view, &request)?)
+}
+
+// Whether a search of an index with a field `n` is refused where it goes on behind so many places.
+fn is_refused(alloc: Global, places: usize) -> Result<bool, Fail> {
+    let mut values = Vec::new(alloc);
+    for _place in 0..places {
+        values.push(Value::Long(1))?;
+    }
+    let after = Keys {
+        values: Items::of(values),
+    };
+    let request = by_place(alloc, Some(after), None);
+    match refused(&mapping_of_n(alloc)?, &request) {
+        Some(Reply::BadAfter) => Ok(true),
+        Some(_) => Err("another refusal")?,
+        None => Ok(false),
     }
 }
 
@@ -75,5 +90,7 @@ fn a_page_of_nothing(rt: HostRuntime) -> Result<(), Fail> {
     let page = empty_page(alloc)?;
     let page = page_text(alloc, &page)?;
     assert_eq!(rt; page.as_str(), "0 of 0");
+    assert!(rt; !is_refused(alloc, 1)?);
+    assert!(rt; is_refused(alloc, 2)?);
     Ok(())
 }

@@ -17,7 +17,6 @@ use Rattle.es_types.specs.declared.fit.DocFault.{DocFault}
 use Rattle.es_types.specs.declared.mapping.Field.{Field}
 use Rattle.es_types.specs.declared.row.Op.{Op}
 use Rattle.es_types.specs.declared.row.Op.TheVariants.{Put as PutOp, Remove as RemoveOp}
-use Rattle.es_types.specs.declared.row.Row.{Row}
 use Rattle.es_types.specs.declared.row.Value.{Value}
 use Rattle.es_types.specs.Fields.{fit}
 use Rattle.es_types.specs.Homes.{shard_of}
@@ -32,7 +31,6 @@ use Rattle.list_machine.specs.declared.event.Wrote.{Wrote}
 use Rattle.list_machine.specs.Rows.{Shard, has_id, last_number, publish, rows_to_come}
 use Rattle.list_machine.specs.State.{Index, State, empty_shard, id_of, index_of, put_index, view_of}
 use Rattle.list_machine.specs.Step.{append_op, create, happen, is_full, op_of, put_op, publish_index, publish_shard, put_shard, seal, search_index, search_reply, write, write_op, write_shard, wrote}
-use Rattle.list_machine.specs.Stores.{view_over}
 use Rattle.list_machine.specs.Views.{View}
 use Rattle.es_core.specs.declared.index.Index.{Index as Store}
 use Rattle.es_core.specs.Indexes.{AllNumbered, AreNumbered, IsLike, Moves, Placed, publish_at, publish_in, sealed, write_at, write_by, write_in}
@@ -283,7 +281,7 @@ view_none None is = refl
 view_none (Some index) is = absurd (none-some (view_of index) is)
 
 -- a search of an index whose view was found, where nothing seen changes
-search_turns : (name : List ℕ) (request : SearchRequest) (old new : List Store) (view : View) (reply : Reply) → Some view ≡ option_map view_of (index_of name (indexes_seen old))
+pub search_turns : (name : List ℕ) (request : SearchRequest) (old new : List Store) (view : View) (reply : Reply) → Some view ≡ option_map view_of (index_of name (indexes_seen old))
     → indexes_seen new ≡ indexes_seen old → reply ≡ search_reply view request
     → Moves (λ state. happen state (Search (Named name) request)) old new reply
 search_turns name request old new view reply finds same is state =
@@ -294,21 +292,6 @@ search_turns name request old new view reply finds same is state =
     ap (λ it. search_index seen request it) found.1
     ∙ ap replied (sym (is ∙ ap (λ (it : View). search_reply it request) found.2))
     ∙ ap with_indexes (sym same)
-
--- the same of what a call gave
-pub search_done : (name : List ℕ) (request : SearchRequest) (old new : List Store) (view : View) → Some view ≡ option_map view_of (index_of name (indexes_seen old))
-    → indexes_seen new ≡ indexes_seen old → {E : Type 0} (r : Result Reply E) → IfOk r (λ reply. reply ≡ search_reply view request)
-    → IfOk r (Moves (λ state. happen state (Search (Named name) request)) old new)
-search_done name request old new view finds same (Ok reply) is = search_turns name request old new view reply finds same is
-search_done name request old new view finds same (Err e) is = tt
-
--- a search of an index that isn't there
-pub search_none : (name : List ℕ) (request : SearchRequest) (old new : List Store) → None ≡ option_map view_of (index_of name (indexes_seen old))
-    → indexes_seen new ≡ indexes_seen old → Moves (λ state. happen state (Search (Named name) request)) old new NoIndex
-search_none name request old new none same state =
-    let seen : State = record state { indexes = indexes_seen old } in
-    let with_indexes : List Index → State × Reply = λ them. (record state { indexes = them }, NoIndex) in
-    ap (λ it. search_index seen request it) (view_none (index_of name (indexes_seen old)) none) ∙ ap with_indexes (sym same)
 
 -- found by a look-up in a slice
 pub found_at : (name : List ℕ) (stores slice : List Store) (at : ℕ) (store : Store) (place : Option ℕ) → slice ≡ stores
@@ -450,9 +433,3 @@ create_done name old new shards mapping none (Err e) moves = tt
 -- the index that was found is the one of the name
 pub index_of_found : {name : List ℕ} {stores : List Store} {at : ℕ} {store : Store} → IsFound name stores at store → index_of name (indexes_seen stores) ≡ Some (index_seen store)
 index_of_found {name} {stores} {at} {store} found = index_of-first name stores at store found.first found.is
-
--- a view is what its parts are
-pub view_is : (view : View) (index : List ℕ) (mapping : List Field) (shards : List (List Row)) → index ≡ view.index → mapping ≡ view.mapping → shards ≡ view.shards
-    → view_over index mapping shards ≡ view
-view_is view index mapping shards named mapped rows =
-    ap (λ (it : List ℕ). view_over it mapping shards) named ∙ ap (λ (it : List Field). view_over view.index it shards) mapped ∙ ap (view_over view.index view.mapping) rows

@@ -1,5 +1,7 @@
 pub mod StandingLemmas
 pub mod ContextLemmas
+pub mod Planned
+pub mod Lending
 pub mod Searches
 pub mod IndexLemmas
 pub mod StepLemmas

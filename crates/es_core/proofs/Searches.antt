@@ -1,35 +1,24 @@
 -- What a search of a point in time makes of the contexts of a book.
-use Rattle.std.proofs.Common.{◌≡◌, ℕ, ◌+◌, Bool, true, false, cond, ◌&&◌, eqb, max, ◌<◌, List, [], ◌∷◌, Option, Some, None, Result, Ok, Err, IsErr, OnOk, OnErr, ◌↔◌, ◌≢◌, All, subst, length, map, get_or, refl, sym, ap, ◌∙◌, arith}
+use Rattle.std.proofs.Common.{◌≡◌, ℕ, ◌+◌, Bool, true, false, cond, eqb, max, ◌<◌, List, [], ◌∷◌, Option, Some, None, Result, Ok, Err, IsErr, OnOk, OnErr, ◌↔◌, ◌≢◌, All, subst, length, map, get_or, refl, sym, ap, ◌∙◌, arith}
 use Rattle.std.specs.List.{filter, sum_by}
 use Rattle.std.specs.Option.{option_map}
 use Rattle.std.proofs.lemmas.List.{get_or-map, length-map}
 use Rattle.std.proofs.lemmas.List.Elements.{All-filter, All-map, All-weaker}
 use Rattle.std.proofs.lemmas.List.Sums.{sum_by-cons}
+use Rattle.std.proofs.lemmas.Option.{none-some}
 use Rattle.context_book.specs.declared.context.Context.{Context as Kept}
 use Rattle.context_book.specs.Books.{Book, Rises, is_closed, live_one, seen}
-use Rattle.context_book.specs.Calls.{kept_till}
-use Rattle.list_machine.specs.declared.event.Reply.{Reply}
-use Rattle.list_machine.specs.declared.event.Reply.TheVariants.{BadAfter, BadQuery, BadSort, Found}
+use Rattle.context_book.specs.Calls.{kept_till, lent_by}
+use Rattle.es_types.specs.declared.mapping.Field.{Field}
+use Rattle.es_types.specs.declared.row.Row.{Row}
 use Rattle.list_machine.specs.declared.event.Which.{Which}
-use Rattle.list_machine.specs.declared.search.Answer.{Answer}
 use Rattle.list_machine.specs.declared.search.SearchRequest.{SearchRequest}
 use Rattle.list_machine.specs.State.{Context}
-use Rattle.list_machine.specs.Step.{freed, goes_on, is_closing, is_fit, keep_one, search_reply}
-use Rattle.list_machine.specs.Views.{View, answer}
-use Rattle.es_core.specs.Contexts.{contexts_seen, is_answered, is_found, kept_longer, live_context}
+use Rattle.list_machine.specs.Step.{freed, is_closing, is_fit, keep_one}
+use Rattle.list_machine.specs.Stores.{view_over}
+use Rattle.list_machine.specs.Views.{View}
+use Rattle.es_core.specs.Contexts.{contexts_seen, is_answered, kept_longer, live_context}
 use Rattle.es_core.proofs.ContextLemmas.{SeenRises, filter_map, live_seen}
-
-answered : (query sort after : Bool) (answer : Answer)
-    → is_found (cond query (cond sort (cond after (Found answer) BadAfter) BadSort) BadQuery) ≡ (query && (sort && after))
-answered true true true answer = refl
-answered true true false answer = refl
-answered true false after answer = refl
-answered false sort after answer = refl
-
--- a search is answered where it fits
-found_fit : (view : View) (request : SearchRequest) → is_found (search_reply view request) ≡ is_fit view request
-found_fit view request =
-    answered _ _ (goes_on view request.sort request.after) (answer view request request.from)
 
 -- the live one, as the machine has it
 pub one_seen : (number moment : ℕ) (contexts : List Kept) (one : Kept) → live_one number moment contexts ≡ Some one
@@ -45,12 +34,17 @@ pub missed : (moment number : ℕ) (keep : Option ℕ) (request : SearchRequest)
 missed moment number None request o contexts none = refl
 missed moment number (Some keep) request o contexts none = rw none refl
 
--- what is kept longer behind a reply that a search of the live one gave
-pub kept_behind : (moment number : ℕ) (keep : Option ℕ) (request : SearchRequest) (one : Kept) (reply : Reply) (answered : Bool) (o : Option Context) (old new : List Context)
-    → o ≡ Some (seen one) → reply ≡ search_reply one.owner.body request → is_found reply ≡ answered
+-- what is kept longer where a search of the live one fits, or doesn't
+pub kept_behind : (moment number : ℕ) (keep : Option ℕ) (request : SearchRequest) (one : Kept) (answered : Bool) (o : Option Context) (old new : List Context)
+    → o ≡ Some (seen one) → is_fit one.owner.body request ≡ answered
     → new ≡ kept_longer moment number keep answered old → new ≡ kept_longer moment number keep (is_answered request o) old
-kept_behind moment number keep request one reply answered o old new some is says now =
-    now ∙ ap (λ (b : Bool). kept_longer moment number keep b old) (sym says ∙ ap is_found is ∙ found_fit one.owner.body request ∙ sym (ap (is_answered request) some))
+kept_behind moment number keep request one answered o old new some says now =
+    now ∙ ap (λ (b : Bool). kept_longer moment number keep b old) (sym says ∙ sym (ap (is_answered request) some))
+
+-- a test by the mapping of the view says it
+pub fits_by : (view : View) (mapping : List Field) (request : SearchRequest) (fits : Bool) → mapping ≡ view.mapping
+    → ((index : List ℕ) (shards : List (List Row)) → is_fit (view_over index mapping shards) request ≡ fits) → is_fit view request ≡ fits
+fits_by view mapping request fits same says = subst (λ (it : List Field). is_fit (view_over view.index it view.shards) request ≡ fits) same (says view.index view.shards)
 
 -- where no search is answered nothing is kept longer
 pub kept_not : (moment number : ℕ) (keep : Option ℕ) (contexts : List Context) → contexts ≡ kept_longer moment number keep false contexts
@@ -101,6 +95,44 @@ seen_rises (first ∷ rest) rises i j d less within =
     let at_i : (get_or (contexts_seen contexts) i d).number ≡ (get_or contexts i first).number = ap (λ (it : Context). it.number) (get_or-map seen contexts i first d before) in
     let at_j : (get_or (contexts_seen contexts) j d).number ≡ (get_or contexts j first).number = ap (λ (it : Context). it.number) (get_or-map seen contexts j first d inside) in
     omega arith
+
+-- what the machine has of them stays where one has lent a pass more
+pub lent_seen : (number : ℕ) (contexts : List Kept) → contexts_seen (map (lent_by number) contexts) ≡ contexts_seen contexts
+lent_seen number [] = refl
+lent_seen number (context ∷ contexts) =
+    let rest = lent_seen number contexts in
+    elim (eqb context.number number) as (λ b. seen (cond b (record context { owner = record context.owner { lent = context.owner.lent + 1 } }) context) ∷ contexts_seen (map (lent_by number) contexts)
+    ≡ seen context ∷ contexts_seen contexts)
+    [ true ↦ ap (λ them. seen context ∷ them) rest | false ↦ ap (λ them. seen context ∷ them) rest ]
+
+-- whatever a book's lending answers
+pub lent_book_seen : (number : ℕ) (old new : Book) {A E : Type 0} (r : Result A E) → OnOk r (new ≡ record old { contexts = map (lent_by number) old.contexts }) → OnErr r (new ≡ old)
+    → contexts_seen new.contexts ≡ contexts_seen old.contexts
+lent_book_seen number old new (Ok a) is same = ap (λ (it : Book). contexts_seen it.contexts) is ∙ lent_seen number old.contexts
+lent_book_seen number old new (Err e) is same = ap (λ (it : Book). contexts_seen it.contexts) same
+
+-- so the live one is there still
+pub still_live : (number moment : ℕ) (old new : List Kept) (one : Kept) → contexts_seen new ≡ contexts_seen old → live_one number moment old ≡ Some one
+    → live_one number moment new ≢ None
+still_live number moment old new one same is none =
+    none-some (seen one) (sym (none_seen number moment new none) ∙ ap (live_context number moment) same ∙ one_seen number moment old one is)
+
+-- the numbers stay where one has lent a pass more
+pub lent_numbers : (next number : ℕ) (contexts : List Kept) → All (λ (context : Kept). context.number < next) contexts
+    → All (λ (context : Kept). context.number < next) (map (lent_by number) contexts)
+lent_numbers next number contexts below =
+    All-map (λ (context : Kept). context.number < next) (lent_by number) contexts
+    (All-weaker (λ (context : Kept). context.number < next) (λ (context : Kept). (lent_by number context).number < next) (λ context is. one context is) contexts below)
+  where
+    one : (context : Kept) → context.number < next → (lent_by number context).number < next
+    one context is =
+        elim (eqb context.number number) as (λ b. (cond b (record context { owner = record context.owner { lent = context.owner.lent + 1 } }) context).number < next) [ true ↦ is | false ↦ is ]
+
+pub lent_book_numbers : (next number : ℕ) (old new : Book) {A E : Type 0} (r : Result A E) → OnOk r (new ≡ record old { contexts = map (lent_by number) old.contexts }) → OnErr r (new ≡ old)
+    → All (λ (context : Kept). context.number < next) old.contexts → All (λ (context : Kept). context.number < next) new.contexts
+lent_book_numbers next number old new (Ok a) is same below =
+    subst (λ (it : Book). All (λ (context : Kept). context.number < next) it.contexts) (sym is) (lent_numbers next number old.contexts below)
+lent_book_numbers next number old new (Err e) is same below = subst (λ (it : Book). All (λ (context : Kept). context.number < next) it.contexts) (sym same) below
 
 -- the numbers stay where one is kept longer
 pub kept_numbers : (next number till : ℕ) (contexts : List Kept) → All (λ (context : Kept). context.number < next) contexts

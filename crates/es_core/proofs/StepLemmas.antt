@@ -1,5 +1,5 @@
 -- What an event makes of the states that a core may hold.
-use Rattle.std.proofs.Common.{◌≡◌, ℕ, ◌+◌, ◌<◌, ◌≤◌, Bool, true, false, cond, eqb, max, List, [], ◌∷◌, ◌++◌, length, Option, Some, None, Result, Ok, Err, IfOk, OnOk, All, map, not, Vec, Global, refl, sym, ap, ap₂, subst, subst₂, ◌∙◌, ⊎_elim, arith}
+use Rattle.std.proofs.Common.{◌≡◌, ℕ, ◌+◌, ◌<◌, ◌≤◌, Bool, true, false, cond, eqb, max, List, [], ◌∷◌, ◌++◌, length, Option, Some, None, Result, Ok, Err, IfOk, OnOk, All, map, not, Vec, Global, refl, sym, ap, ap₂, subst, subst₂, ◌∙◌, ⊎_elim, arith, length-append}
 use Rattle.std.specs.List.{count_by, filter, find, sum_by}
 use Rattle.std.specs.Option.{option_map}
 use Rattle.std.proofs.lemmas.Bool.{cases_Bool}
@@ -22,20 +22,27 @@ use Rattle.list_machine.specs.Views.{View}
 use Rattle.list_machine.specs.Stores.{IsCounted, IsCountedIndex, IsSmall as IsViewSmall}
 use Rattle.es_core.specs.declared.index.Index.{Index as Store}
 use Rattle.es_core.specs.declared.node.Core.{Core}
-use Rattle.es_core.specs.Contexts.{contexts_seen, found, freed_where_fit, is_answered, is_opened, kept_longer, live_context, opening}
+use Rattle.context_book.specs.declared.context.Context.{Context as Kept}
+use Rattle.es_core.specs.declared.turned.Chore.{Chore}
+use Rattle.es_core.specs.declared.turned.Chore.TheVariants.{Reap, NoteEnd}
+use Rattle.es_core.specs.declared.turned.Turned.{Turned}
+use Rattle.es_core.specs.Plans.{turned_reply}
+use Rattle.es_core.specs.Contexts.{AllLent, Lends, contexts_seen, left_by, most_lent, found, freed_where_fit, is_answered, is_opened, kept_longer, live_context, opening}
 use Rattle.context_book.specs.Books.{Book}
 use Rattle.es_core.specs.Indexes.{AllNumbered, AreNumbered, Moves}
 use Rattle.es_core.specs.Seen.{indexes_seen}
 use Rattle.es_core.specs.Stands.{Rests, Stands, StandsOn}
 use Rattle.es_core.specs.Steps.{Holds, IsSame, IsSmall, Steps}
 use Rattle.es_core.proofs.IndexLemmas.{view_found, view_none}
-use Rattle.es_core.proofs.ContextLemmas.{SeenRises, alive, closed_live, filter_less, filter_swap, freed_alike, kept_alike, live_again, live_context-is}
+use Rattle.es_core.proofs.Lending.{lends_left, lends_same, lent_few, lent_next}
+use Rattle.es_core.proofs.ContextLemmas.{reaped_seen, SeenRises, alive, closed_live, filter_less, filter_swap, freed_alike, kept_alike, live_again, live_context-is}
 
 -- a step that leads to this state and this reply
-steps_to : (new : Core) (moment : ℕ) (event : Event) (reply : Reply) (state next : State) → happen state event ≡ (next, reply) → Holds new moment next
-    → Holds new moment (happen state event).0 × (reply ≡ (happen state event).1)
-steps_to new moment event reply state next is holds =
-    (subst (λ (pair : State × Reply). Holds new moment pair.0) (sym is) holds, sym (ap (λ (pair : State × Reply). pair.1) is))
+steps_to : (old new : Core) (moment : ℕ) (event : Event) (reply : Reply) (state next : State) → happen state event ≡ (next, reply) → Holds new moment next
+    → Lends old.book.contexts new.book.contexts
+    → Holds new moment (happen state event).0 × ((reply ≡ (happen state event).1) × Lends old.book.contexts new.book.contexts)
+steps_to old new moment event reply state next is holds lends =
+    (subst (λ (pair : State × Reply). Holds new moment pair.0) (sym is) holds, (sym (ap (λ (pair : State × Reply). pair.1) is), lends))
 
 -- all but the indexes are as before
 pub record IsBeside (old new : Core) : Type 0 where
@@ -51,40 +58,38 @@ small_indexes core moment state holds small =
 -- an event that changes indexes alone
 moved_steps : (old new : Core) (moment : ℕ) (event : Event) (reply : Reply) → IsBeside old new
     → (AllNumbered old.indexes.items → Moves (λ state. happen state event) old.indexes.items new.indexes.items reply) → Steps old new moment event reply
-moved_steps old new moment event reply beside moves state holds small =
+moved_steps old new moment event reply beside moves state holds small few =
     let there : happen (record state { indexes = indexes_seen old.indexes.items }) event ≡ (record state { indexes = indexes_seen new.indexes.items }, reply) =
     moves (small_indexes old moment state holds small) state in
     let here : happen state event ≡ (record state { indexes = indexes_seen new.indexes.items }, reply) =
     subst (λ (indexes : List Index). happen (record state { indexes = indexes }) event ≡ (record state { indexes = indexes_seen new.indexes.items }, reply)) holds.indexes there in
-    steps_to new moment event reply state (record state { indexes = indexes_seen new.indexes.items }) here (record {
+    steps_to old new moment event reply state (record state { indexes = indexes_seen new.indexes.items }) here (record {
       limits_are = beside.limits_are ∙ holds.limits_are;
       moment_is = holds.moment_is;
       next = beside.next ∙ holds.next;
       indexes = refl;
       contexts = λ later l. ap (λ (it : Book). filter (is_live later) (contexts_seen it.contexts)) beside.book ∙ holds.contexts later l;
-    })
+    }) (lends_same old.book.contexts new.book.contexts (ap (λ (it : Book). it.contexts) beside.book))
 
--- the same of what a call gave at that event
-pub moved_done : (old new : Core) (moment : ℕ) (event named : Event) → event ≡ named → IsBeside old new → {E : Type 0} (r : Result Reply E)
-    → IfOk r (λ reply. AllNumbered old.indexes.items → Moves (λ state. happen state named) old.indexes.items new.indexes.items reply)
-    → IfOk r (Steps old new moment event)
-moved_done old new moment event named is beside (Ok reply) moves =
+-- the same at that event
+pub moved_done : (old new : Core) (moment : ℕ) (event named : Event) (reply : Reply) → event ≡ named → IsBeside old new
+    → (AllNumbered old.indexes.items → Moves (λ state. happen state named) old.indexes.items new.indexes.items reply) → Steps old new moment event reply
+moved_done old new moment event named reply is beside moves =
     subst (λ (it : Event). Steps old new moment it reply) (sym is) (moved_steps old new moment named reply beside moves)
-moved_done old new moment event named is beside (Err e) moves = tt
 
 -- where the indexes stay, which a slice lends
-pub stayed_done : (old new : Core) (moment : ℕ) (event named : Event) → event ≡ named → IsBeside old new → (slice : List Store) → slice ≡ new.indexes.items → slice ≡ old.indexes.items
-    → {E : Type 0} (r : Result Reply E) → IfOk r (λ reply. AllNumbered slice → Moves (λ state. happen state named) slice slice reply) → IfOk r (Steps old new moment event)
-stayed_done old new moment event named is beside slice of_new of_old r moves =
-    moved_done old new moment event named is beside r
-    (subst₂ (λ (before after : List Store). IfOk r (λ reply. AllNumbered before → Moves (λ state. happen state named) before after reply)) of_old of_new moves)
+pub stayed_done : (old new : Core) (moment : ℕ) (event named : Event) (reply : Reply) → event ≡ named → IsBeside old new → (slice : List Store) → slice ≡ new.indexes.items → slice ≡ old.indexes.items
+    → (AllNumbered slice → Moves (λ state. happen state named) slice slice reply) → Steps old new moment event reply
+stayed_done old new moment event named reply is beside slice of_new of_old moves =
+    moved_done old new moment event named reply is beside
+    (subst₂ (λ (before after : List Store). AllNumbered before → Moves (λ state. happen state named) before after reply) of_old of_new moves)
 
--- where the numbers need not be small
-pub moved_any : (old new : Core) (moment : ℕ) (event named : Event) → event ≡ named → IsBeside old new → {E : Type 0} (r : Result Reply E)
-    → IfOk r (Moves (λ state. happen state named) old.indexes.items new.indexes.items) → IfOk r (Steps old new moment event)
-moved_any old new moment event named is beside (Ok reply) moves =
-    subst (λ (it : Event). Steps old new moment it reply) (sym is) (moved_steps old new moment named reply beside (λ _. moves))
-moved_any old new moment event named is beside (Err e) moves = tt
+-- the same of a search that a call planned
+pub looked_done : (old new : Core) (moment : ℕ) (event named : Event) → event ≡ named → IsBeside old new → {E : Type 0} (r : Result Turned E)
+    → IfOk r (λ turned. Moves (λ state. happen state named) old.indexes.items new.indexes.items (turned_reply turned))
+    → IfOk r (λ turned. Steps old new moment event (turned_reply turned))
+looked_done old new moment event named is beside (Ok turned) moves = moved_done old new moment event named (turned_reply turned) is beside (λ _. moves)
+looked_done old new moment event named is beside (Err e) moves = tt
 
 -- a search of a context goes by the live one
 abbrev search_live : State → ℕ → Option ℕ → SearchRequest → Option Context → State × Reply
@@ -145,10 +150,12 @@ kept_same moment number (Some keep) request (Some one) xs ys rises rise is alike
 
 -- a search of a point in time keeps it longer, and changes nothing else
 search_steps : (old new : Core) (moment number : ℕ) (keep : Option ℕ) (request : SearchRequest) (reply : Reply) → IsKeptCore old new → SeenRises (contexts_seen old.book.contexts)
-    → reply ≡ found request (live_context number moment (contexts_seen old.book.contexts))
-    → contexts_seen new.book.contexts ≡ kept_longer moment number keep (is_answered request (live_context number moment (contexts_seen old.book.contexts))) (contexts_seen old.book.contexts)
+    → Lends old.book.contexts new.book.contexts
+    → (AllLent most_lent old.book.contexts → reply ≡ found request (live_context number moment (contexts_seen old.book.contexts)))
+    → (AllLent most_lent old.book.contexts
+    → contexts_seen new.book.contexts ≡ kept_longer moment number keep (is_answered request (live_context number moment (contexts_seen old.book.contexts))) (contexts_seen old.book.contexts))
     → Steps old new moment (Search (Pit number keep) request) reply
-search_steps old new moment number keep request reply same rises is now state holds small =
+search_steps old new moment number keep request reply same rises lends is now state holds small few =
     let o : Option Context = live_context number moment (contexts_seen old.book.contexts) in
     let live : alive state.moment (find (λ context. eqb context.number number) state.contexts) ≡ o =
     ap (λ at. alive at (find (λ context. eqb context.number number) state.contexts)) holds.moment_is
@@ -157,25 +164,27 @@ search_steps old new moment number keep request reply same rises is now state ho
     let next : State = record state { contexts = kept_longer moment number keep (is_answered request o) state.contexts } in
     let made : ℕ → State × Reply = λ at. (record state { contexts = kept_longer at number keep (is_answered request o) state.contexts }, found request o) in
     let replied : Reply → State × Reply = λ it. (next, it) in
-    steps_to new moment (Search (Pit number keep) request) reply state next
+    steps_to old new moment (Search (Pit number keep) request) reply state next
     (search_pit-is state number keep request (find (λ context. eqb context.number number) state.contexts)
     ∙ ap (search_live state number keep request) live
     ∙ live_found state number keep request o
     ∙ ap made holds.moment_is
-    ∙ ap replied (sym is))
+    ∙ ap replied (sym (is few)))
     (contexts_hold old new moment state (kept_longer moment number keep (is_answered request o) state.contexts) same holds
-    (λ later from. ap (filter (is_live later)) now
+    (λ later from. ap (filter (is_live later)) (now few)
     ∙ kept_same moment number keep request o (contexts_seen old.book.contexts) state.contexts rises small.differ refl holds.contexts later from))
+    lends
 
 -- the same of what a call gave at that event
 pub search_done : (old new : Core) (moment : ℕ) (event : Event) (number : ℕ) (keep : Option ℕ) (request : SearchRequest) → event ≡ Search (Pit number keep) request
-    → IsKeptCore old new → SeenRises (contexts_seen old.book.contexts) → {E : Type 0} (r : Result Reply E)
-    → IfOk r (λ reply. reply ≡ found request (live_context number moment (contexts_seen old.book.contexts)))
-    → OnOk r (contexts_seen new.book.contexts ≡ kept_longer moment number keep (is_answered request (live_context number moment (contexts_seen old.book.contexts))) (contexts_seen old.book.contexts))
-    → IfOk r (Steps old new moment event)
-search_done old new moment event number keep request named same rises (Ok reply) is now =
-    subst (λ (it : Event). Steps old new moment it reply) (sym named) (search_steps old new moment number keep request reply same rises is now)
-search_done old new moment event number keep request named same rises (Err e) is now = tt
+    → IsKeptCore old new → SeenRises (contexts_seen old.book.contexts) → Lends old.book.contexts new.book.contexts → {E : Type 0} (r : Result Turned E)
+    → (AllLent most_lent old.book.contexts → IfOk r (λ turned. turned_reply turned ≡ found request (live_context number moment (contexts_seen old.book.contexts))))
+    → (AllLent most_lent old.book.contexts
+    → OnOk r (contexts_seen new.book.contexts ≡ kept_longer moment number keep (is_answered request (live_context number moment (contexts_seen old.book.contexts))) (contexts_seen old.book.contexts)))
+    → IfOk r (λ turned. Steps old new moment event (turned_reply turned))
+search_done old new moment event number keep request named same rises lends (Ok turned) is now =
+    subst (λ (it : Event). Steps old new moment it (turned_reply turned)) (sym named) (search_steps old new moment number keep request (turned_reply turned) same rises lends is now)
+search_done old new moment event number keep request named same rises lends (Err e) is now = tt
 
 -- ---- closing
 
@@ -186,43 +195,45 @@ freed_small moment which state small =
     omega (arith, small.shards)
 
 -- contexts are closed
-pub close_steps : (old new : Core) (moment : ℕ) (which : Which) (count : ℕ) → IsKeptCore old new
+pub close_steps : (old new : Core) (moment : ℕ) (which : Which) (count : ℕ) → IsKeptCore old new → Lends old.book.contexts new.book.contexts
     → count ≡ freed_where_fit moment which (contexts_seen old.book.contexts)
     → contexts_seen new.book.contexts ≡ filter (λ (context : Context). not (is_closing moment which context)) (contexts_seen old.book.contexts)
     → Steps old new moment (Close which) (Closed count)
-close_steps old new moment which count same is now state holds small =
+close_steps old new moment which count same lends is now state holds small few =
     let next : State = record state { contexts = map (close_one moment which) state.contexts } in
     let xs = contexts_seen old.book.contexts in
     let alike : freed moment which xs ≡ freed moment which state.contexts = freed_alike moment which xs state.contexts (holds.contexts moment (omega arith)) in
-    let few = freed_small moment which state small in
-    let counted : freed moment which state.contexts ≡ count = grind (arith, is, alike, few) in
+    let fits = freed_small moment which state small in
+    let counted : freed moment which state.contexts ≡ count = grind (arith, is, alike, fits) in
     let made : ℕ → State × Reply = λ at. (record state { contexts = map (close_one at which) state.contexts }, Closed (freed at which state.contexts)) in
     let replied : ℕ → State × Reply = λ n. (next, Closed n) in
-    steps_to new moment (Close which) (Closed count) state next (ap made holds.moment_is ∙ ap replied counted)
+    steps_to old new moment (Close which) (Closed count) state next (ap made holds.moment_is ∙ ap replied counted)
     (contexts_hold old new moment state (map (close_one moment which) state.contexts) same holds
     (λ later from. ap (filter (is_live later)) now
     ∙ filter_swap (is_live later) (λ (context : Context). not (is_closing moment which context)) xs
     ∙ ap (filter (λ (context : Context). not (is_closing moment which context))) (holds.contexts later from)
     ∙ sym (closed_live moment later which state.contexts)))
+    lends
 
 -- the same at that event
-pub close_done : (old new : Core) (moment : ℕ) (event : Event) (which : Which) (count : ℕ) → event ≡ Close which → IsKeptCore old new
+pub close_done : (old new : Core) (moment : ℕ) (event : Event) (which : Which) (count : ℕ) → event ≡ Close which → IsKeptCore old new → Lends old.book.contexts new.book.contexts
     → count ≡ freed_where_fit moment which (contexts_seen old.book.contexts)
     → contexts_seen new.book.contexts ≡ filter (λ (context : Context). not (is_closing moment which context)) (contexts_seen old.book.contexts)
     → Steps old new moment event (Closed count)
-close_done old new moment event which count named same is now =
-    subst (λ (it : Event). Steps old new moment it (Closed count)) (sym named) (close_steps old new moment which count same is now)
+close_done old new moment event which count named same lends is now =
+    subst (λ (it : Event). Steps old new moment it (Closed count)) (sym named) (close_steps old new moment which count same lends is now)
 
 -- ---- opening
 
 -- a point in time of an index that isn't there
 pub open_none : (old new : Core) (moment : ℕ) (name : List ℕ) (keep : ℕ) → IsKeptCore old new → new.book ≡ old.book
     → None ≡ option_map view_of (index_of name (indexes_seen old.indexes.items)) → Steps old new moment (OpenPit name keep) NoIndex
-open_none old new moment name keep same book none state holds small =
-    steps_to new moment (OpenPit name keep) NoIndex state state
+open_none old new moment name keep same book none state holds small few =
+    steps_to old new moment (OpenPit name keep) NoIndex state state
     (ap (λ indexes. open_pit state keep (index_of name indexes)) (sym holds.indexes) ∙ ap (open_pit state keep) (view_none (index_of name (indexes_seen old.indexes.items)) none))
     (contexts_hold old new moment state state.contexts same holds
     (λ later from. ap (λ (it : Book). filter (is_live later) (contexts_seen it.contexts)) book ∙ holds.contexts later from))
+    (lends_same old.book.contexts new.book.contexts (ap (λ (it : Book). it.contexts) book))
 
 -- how many contexts of the state are live
 live_count : (core : Core) (moment : ℕ) (state : State) → Holds core moment state → live_contexts state ≡ count_by (is_live moment) (contexts_seen core.book.contexts)
@@ -254,6 +265,7 @@ pub record IsOpening (old new : Core) (moment : ℕ) (view : View) (expiry : ℕ
   pub next : new.next ≡ next_behind reply old.next
   pub indexes : indexes_seen new.indexes.items ≡ indexes_seen old.indexes.items
   pub contexts : opening moment old.next view expiry old.book.limit (contexts_seen old.book.contexts) ≡ (contexts_seen new.book.contexts, reply)
+  pub lends : Lends old.book.contexts new.book.contexts
 
 -- what the machine replies to an opening, by whether as many as may be are live
 open_is : (core : Core) (moment : ℕ) (name : List ℕ) (keep : ℕ) (index : Index) → index_of name (indexes_seen core.indexes.items) ≡ Some index
@@ -278,7 +290,7 @@ pairs a x b y is = (ap (λ (p : _ × _). p.0) is, ap (λ (p : _ × _). p.1) is)
 pub open_steps : (old new : Core) (moment : ℕ) (name : List ℕ) (keep : ℕ) (view : View) (expiry : ℕ) (reply : Reply)
     → Some view ≡ option_map view_of (index_of name (indexes_seen old.indexes.items)) → expiry ≡ moment + keep → IsOpening old new moment view expiry reply
     → Steps old new moment (OpenPit name keep) reply
-open_steps old new moment name keep view expiry reply finds ends opens state holds small =
+open_steps old new moment name keep view expiry reply finds ends opens state holds small few =
     let found = view_found (index_of name (indexes_seen old.indexes.items)) view finds in
     let index : Index = found.0 in
     let cs = contexts_seen old.book.contexts in
@@ -290,9 +302,10 @@ open_steps old new moment name keep view expiry reply finds ends opens state hol
     let same : new.next ≡ old.next = opens.next ∙ ap (λ it. next_behind it old.next) (sym both.1) in
     let made : Bool → State × Reply = λ b. cond b (state, TooMany old.book.limit) (opened state keep index, Opened old.next) in
     let replied : Reply → State × Reply = λ it. (state, it) in
-    steps_to new moment (OpenPit name keep) reply state state (is ∙ ap made full ∙ ap replied both.1)
+    steps_to old new moment (OpenPit name keep) reply state state (is ∙ ap made full ∙ ap replied both.1)
     (contexts_hold old new moment state state.contexts (record { limits_are = opens.limits_are; next = same; indexes = opens.indexes }) holds
-    (λ later from. ap (filter (is_live later)) (sym both.0) ∙ holds.contexts later from)))
+    (λ later from. ap (filter (is_live later)) (sym both.0) ∙ holds.contexts later from))
+    opens.lends)
     (λ (room : eqb (count_by (is_live moment) cs) old.book.limit ≡ false).
     let chosen : Bool → List Context × Reply = λ b. cond b (cs, TooMany old.book.limit) (cs ++ new_context old.next view expiry ∷ [], Opened old.next) in
     let both = pairs (cs ++ new_context old.next view expiry ∷ []) (contexts_seen new.book.contexts) (Opened old.next) reply (sym (ap chosen room) ∙ opens.contexts) in
@@ -301,7 +314,7 @@ open_steps old new moment name keep view expiry reply finds ends opens state hol
     let replied : Reply → State × Reply = λ it. (opened state keep index, it) in
     let last : new_context old.next view expiry ≡ new_context state.next (view_of index) (state.moment + keep) =
     ap (λ n. new_context n view expiry) holds.next ∙ ap₂ (new_context state.next) found.2 (ends ∙ ap (λ at. at + keep) (sym holds.moment_is)) in
-    steps_to new moment (OpenPit name keep) reply state (opened state keep index) (is ∙ ap made room ∙ ap replied both.1) (record {
+    steps_to old new moment (OpenPit name keep) reply state (opened state keep index) (is ∙ ap made room ∙ ap replied both.1) (record {
       limits_are = opens.limits_are ∙ holds.limits_are;
       moment_is = holds.moment_is;
       next = more ∙ ap (λ n. n + 1) holds.next;
@@ -311,12 +324,12 @@ open_steps old new moment name keep view expiry reply finds ends opens state hol
           ∙ filter-append (is_live later) cs (new_context old.next view expiry ∷ [])
           ∙ ap₂ (λ front it. front ++ filter (is_live later) (it ∷ [])) (holds.contexts later l) last
           ∙ sym (filter-append (is_live later) state.contexts (new_context state.next (view_of index) (state.moment + keep) ∷ []));
-    }))
+    }) opens.lends)
     (cases_Bool (eqb (count_by (is_live moment) cs) old.book.limit))
 
 -- there is no number left, which no small state has
 pub open_last : (old new : Core) (moment : ℕ) (name : List ℕ) (keep : ℕ) (reply : Reply) → old.next ≡ 18446744073709551615 → Steps old new moment (OpenPit name keep) reply
-open_last old new moment name keep reply last state holds small = absurd (omega (arith, last, holds.next, small.next))
+open_last old new moment name keep reply last state holds small few = absurd (omega (arith, last, holds.next, small.next))
 
 -- the run of a history and one entry more
 run-push : (state : State) (history : History) (entry : Entry) → run state (history ++ entry ∷ []) ≡ (step (run state history) entry).0
@@ -380,7 +393,7 @@ turn_stands known old stepped new event moment later reply is steps moved object
     let behind : state_of limits (history ++ entry ∷ []) ≡ next = run-push (start limits) history entry in
     let before : Holds old later (at_moment (state_of limits history) moment) =
     subst (λ (at : ℕ). Holds old at (at_moment (state_of limits history) moment)) (sym is) (stands_holds known limits old history moment stands) in
-    let done = steps (at_moment (state_of limits history) moment) before (known_small known limits history moment stands.bounded short) in
+    let done = steps (at_moment (state_of limits history) moment) before (known_small known limits history moment stands.bounded short) (lent_few (length history) old.book.contexts short stands.lent) in
     let holds : Holds stepped later next = done.0 in (
       record {
         limits_are = moved.limits_are ∙ holds.limits_are ∙ ap (λ (it : State). it.limits) (sym behind) ∙ known.limits_are limits (history ++ entry ∷ []);
@@ -390,10 +403,12 @@ turn_stands known old stepped new event moment later reply is steps moved object
         contexts = λ at l.
             let from : later ≤ at = omega (arith, holds.moment_is, ap (λ (it : State). it.moment) behind) in
             ap (λ (it : Book). filter (is_live at) (contexts_seen it.contexts)) moved.book ∙ holds.contexts at from ∙ ap (λ (it : State). filter (is_live at) it.contexts) (sym behind);
+        lent = subst (λ (it : Book). AllLent (length (history ++ entry ∷ [])) it.contexts) (sym moved.book)
+            (lent_next (length history) (length (history ++ entry ∷ [])) old.book.contexts stepped.book.contexts short (length-append history (entry ∷ [])) done.1.1 stands.lent);
         objects = All-push (λ (it : Entry). PutsObject it.event) history entry stands.objects object;
         bounded = All-push (λ (it : Entry). IsBounded it.event) history entry stands.bounded bounded;
       },
-      done.1,
+      done.1.0,
     )
 
 -- a core that is seen as before stands for what it stood for
@@ -404,6 +419,7 @@ same_stands old new same limits history stands = record {
   next = same.next ∙ stands.next;
   indexes = same.indexes ∙ stands.indexes;
   contexts = λ moment l. ap (λ (it : Book). filter (is_live moment) (contexts_seen it.contexts)) same.book ∙ stands.contexts moment l;
+  lent = subst (λ (it : Book). AllLent (length history) it.contexts) (sym same.book) stands.lent;
   objects = stands.objects;
   bounded = stands.bounded;
 }
@@ -411,17 +427,27 @@ same_stands old new same limits history stands = record {
 -- ---- quiets
 
 -- a quiet changes nothing that a state says, and what is live no more may go
-pub quiet_steps : (old new : Core) (moment : ℕ) → IsKeptCore old new → contexts_seen new.book.contexts ≡ filter (is_live moment) (contexts_seen old.book.contexts)
+quiet_steps : (old new : Core) (moment : ℕ) → IsKeptCore old new → Lends old.book.contexts new.book.contexts
+    → ((later : ℕ) → moment ≤ later → filter (is_live later) (contexts_seen new.book.contexts) ≡ filter (is_live later) (contexts_seen old.book.contexts))
     → Steps old new moment Quiet Done
-quiet_steps old new moment same now state holds small = (
-  contexts_hold old new moment state state.contexts same holds
-      (λ later from. ap (filter (is_live later)) now ∙ live_again moment later (contexts_seen old.book.contexts) from ∙ holds.contexts later from),
-  refl,
+quiet_steps old new moment same lends alike state holds small few = (
+  contexts_hold old new moment state state.contexts same holds (λ later from. alike later from ∙ holds.contexts later from),
+  (refl, lends),
 )
 
--- so a core that lets go what is live no more stands for one Quiet more
-pub quiet_rests : Known → (old new : Core) (moment later : ℕ) → later ≡ max old.moment moment → IsKeptCore old new → new.moment ≡ later
-    → contexts_seen new.book.contexts ≡ filter (is_live later) (contexts_seen old.book.contexts) → Rests old new moment
-quiet_rests known old new moment later is same moved now limits history who stands short =
-    (turn_stands known old new new Quiet moment later Done is (quiet_steps old new later same now)
+-- what is live behind a chore is what was live
+left_alike : (chore : Chore) (moment later : ℕ) (contexts : List Kept) → moment ≤ later
+    → filter (is_live later) (contexts_seen (left_by chore moment contexts)) ≡ filter (is_live later) (contexts_seen contexts)
+left_alike Reap moment later contexts from =
+    ap (filter (is_live later)) (reaped_seen moment contexts) ∙ live_again moment later (contexts_seen contexts) from
+left_alike (NoteEnd number end) moment later contexts from = refl
+
+-- so a core that does a chore stands for one Quiet more
+pub quiet_rests : Known → (old new : Core) (chore : Chore) (moment later : ℕ) → later ≡ max old.moment moment → IsKeptCore old new → new.moment ≡ later
+    → new.book ≡ record old.book { contexts = left_by chore later old.book.contexts } → Rests old new moment
+quiet_rests known old new chore moment later is same moved now limits history who stands short =
+    let contexts : new.book.contexts ≡ left_by chore later old.book.contexts = ap (λ (it : Book). it.contexts) now in
+    (turn_stands known old new new Quiet moment later Done is
+    (quiet_steps old new later same (subst (Lends old.book.contexts) (sym contexts) (lends_left chore later old.book.contexts))
+    (λ at from. ap (λ them. filter (is_live at) (contexts_seen them)) contexts ∙ left_alike chore later at old.book.contexts from))
     (record { moment_is = moved; limits_are = refl; next = refl; indexes = refl; book = refl }) tt tt limits history who stands short).0

@@ -2,5 +2,6 @@ pub mod Seen
 pub mod Standing
 pub mod Indexes
 pub mod Contexts
+pub mod Plans
 pub mod Steps
 pub mod Stands

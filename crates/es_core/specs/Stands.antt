@@ -4,17 +4,17 @@ use Rattle.list_machine.specs.declared.event.Entry.{Entry}
 use Rattle.list_machine.specs.declared.event.Event.{Event}
 use Rattle.list_machine.specs.declared.event.Event.TheVariants.{Quiet}
 use Rattle.list_machine.specs.declared.event.Limits.{Limits}
-use Rattle.list_machine.specs.declared.event.Reply.{Reply}
 use Rattle.list_machine.specs.State.{is_live}
 use Rattle.list_machine.specs.Run.{IsBounded, History, PutsObject, reply_of, state_of}
 use Rattle.es_core.specs.declared.node.Core.{Core}
 use Rattle.es_core.specs.declared.turned.Turned.{Turned}
-use Rattle.es_core.specs.declared.turned.Turned.TheVariants.{Now}
-use Rattle.es_core.specs.Contexts.{contexts_seen}
+use Rattle.es_core.specs.Contexts.{AllLent, contexts_seen}
+use Rattle.es_core.specs.Plans.{turned_reply}
 use Rattle.es_core.specs.Seen.{index_seen}
 
 -- The core stands for the state that the history leads to: its indexes, next number, moment and limits are those of
--- the state, and so are the contexts that are live at its moment or at a later one. Those that are live no more may be gone.
+-- the state, and so are the contexts that are live at its moment or at a later one. Those that are live no more may be gone. Each
+-- owner has lent fewer passes than there are entries.
 pub record Stands (limits : Limits) (core : Core) (history : History) : Type 0 where
   pub limits_are : core.limits ≡ limits
   pub moment : core.moment ≡ (state_of limits history).moment
@@ -22,20 +22,17 @@ pub record Stands (limits : Limits) (core : Core) (history : History) : Type 0 w
   pub indexes : map index_seen core.indexes.items ≡ (state_of limits history).indexes
   pub contexts : (moment : ℕ) → (state_of limits history).moment ≤ moment
       → filter (is_live moment) (contexts_seen core.book.contexts) ≡ filter (is_live moment) (state_of limits history).contexts
+  pub lent : AllLent (length history) core.book.contexts
   pub objects : All (λ (entry : Entry). PutsObject entry.event) history
   pub bounded : All (λ (entry : Entry). IsBounded entry.event) history
 
--- the answer of a turn is this reply
-abbrev pub Replies : Reply → Turned → Type 0
-Replies reply (Now said) = said ≡ reply
-
 -- Whatever history the core stood for, of fewer than 2^53 entries, it now stands for that history and the entry,
--- and the answer is the machine's reply behind that history.
+-- and what it answers, at once or by its plan, is the machine's reply behind that history.
 abbrev pub Turns : Core → Core → Event → ℕ → Turned → Type 0
 Turns old new event moment turned =
     (limits : Limits) (history : History) (who : ℕ) → Stands limits old history → length history < 9007199254740992
     → Stands limits new (history ++ record { who = who; moment = moment; event = event } ∷ [])
-    × Replies (reply_of limits history (record { who = who; moment = moment; event = event })) turned
+    × (turned_reply turned ≡ reply_of limits history (record { who = who; moment = moment; event = event }))
 
 -- the same of a Quiet, which answers nothing
 abbrev pub Rests : Core → Core → ℕ → Type 0

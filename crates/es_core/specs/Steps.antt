@@ -5,7 +5,7 @@ use Rattle.list_machine.specs.declared.event.Reply.{Reply}
 use Rattle.list_machine.specs.State.{Context, Index, State, is_live}
 use Rattle.list_machine.specs.Step.{happen}
 use Rattle.es_core.specs.declared.node.Core.{Core}
-use Rattle.es_core.specs.Contexts.{contexts_seen}
+use Rattle.es_core.specs.Contexts.{AllLent, Lends, contexts_seen, most_lent}
 use Rattle.es_core.specs.Seen.{index_seen}
 use Rattle.es_core.specs.Indexes.{AreNumbered}
 
@@ -24,11 +24,12 @@ pub record IsSmall (state : State) : Type 0 where
   pub differ : AllPairs (λ (a b : Context). a.number < b.number) state.contexts
   pub shards : sum_by (λ (context : Context). length context.view.shards) state.contexts ≤ 18446744073709551615
 
--- whatever small state the core held, it now holds the one behind the event, and the reply is the machine's
+-- whatever small state the core held, it now holds the one behind the event, and the reply is the machine's, unless an owner has
+-- lent as many passes as one may
 abbrev pub Steps : Core → Core → ℕ → Event → Reply → Type 0
 Steps old new moment event reply =
-    (state : State) → Holds old moment state → IsSmall state
-    → Holds new moment (happen state event).0 × (reply ≡ (happen state event).1)
+    (state : State) → Holds old moment state → IsSmall state → AllLent most_lent old.book.contexts
+    → Holds new moment (happen state event).0 × ((reply ≡ (happen state event).1) × Lends old.book.contexts new.book.contexts)
 
 -- all that is seen of the core is as before
 pub record IsSame (old new : Core) : Type 0 where

@@ -1,16 +1,22 @@
-ghost use Rattle.std.specs.Prelude.{◌≡◌, ◌≢◌, ◌<◌, ◌≤◌, ℕ, true, false, None, min, length, filter, sum_by, count_by, All, IfOk, OnOk, OnErr};
+ghost use Rattle.std.specs.Prelude.{◌≡◌, ◌≢◌, ◌<◌, ◌≤◌, ◌^◌, ℕ, true, false, None, min, length, map, filter, sum_by, count_by, All, IfOk, MatchOption, OnOk, OnErr};
 ghost use Rattle.std.specs.Arc.{arc_value};
 ghost use Rattle.context_book.specs.Books.{Rises, has_ended, is_closed, is_kept, live_one, lives};
 ghost use Rattle.list_machine.specs.Run.{IsWithinLimits};
-ghost use Rattle.es_core.specs.Contexts.{contexts_seen, found, freed_where_fit, is_answered, is_found, is_opened, kept_longer, live_context, opening};
+ghost use Rattle.es_core.specs.Contexts.{AllLent, Lends, MayWant, contexts_seen, found, freed_where_fit, is_answered, is_opened, kept_longer, left_by, live_context, most_lent, opening};
+ghost use Rattle.context_book.specs.Calls.{lent_by};
+ghost use Rattle.es_core.specs.Plans.{CanAnswer, IsPlanned, Leaves, kept_on, turned_reply};
 
-use crate::viewing::search_over;
+use crate::planning::page;
+use crate::turned::{Chore, Turned};
 use context_book::{ContextBook, Refused, View, Why};
-use es_types::{Items, KeepAlive, Moment, NoMemory};
-use list_machine::{Reply, SearchRequest, Which};
-use reader_gate::{Owner, make_reader};
+use es_types::{Copied, Items, KeepAlive, Moment, NoMemory};
+use list_machine::{Reply, SearchRequest, Which, refused};
+use reader_gate::{Owner, Pass, make_reader};
 use std::alloc::Global;
 use std::sync::Arc;
+
+/// As many passes as one owner may have lent before it lends another, 2^53 - 1.
+const MOST_LENT: u64 = (1 << 53) - 1;
 
 /// Lets an owner go. Where it was the reader's last holder, the reader ends.
 pub fn shut(owner: Owner<View>) {
@@ -48,6 +54,7 @@ pub fn open(
     requires { All (λ context. context.number < number) book.old.contexts }
     ensures opened { IfOk result (λ reply. opening moment number (arc_value view) expiry book.old.limit (contexts_seen book.old.contexts) ≡ (contexts_seen book.new.contexts, reply)) }
     ensures numbers { All (λ context. context.number ≤ number) book.new.contexts }
+    ensures lends { Lends book.old.contexts book.new.contexts }
     ensures refused { IfOk result (λ reply. is_opened reply ≡ false → book.new ≡ book.old) }
     ensures limit { book.new.limit ≡ book.old.limit }
     ensures err { OnErr result (book.new ≡ book.old) }
@@ -67,7 +74,8 @@ pub fn open(
     }
 }
 
-/// Searches the view of a context that is live, which is kept longer where that is asked and the search is answered.
+/// Plans a search of the view of a context that is live, which is kept longer where that is asked and the search fits. The pass is
+/// lent last of all that takes memory.
 pub fn search_pit(
     alloc: Global,
     book: &mut ContextBook,
@@ -75,30 +83,65 @@ pub fn search_pit(
     number: u64,
     keep: Option<KeepAlive>,
     request: &SearchRequest,
-) -> Result<Reply, NoMemory>
-    requires { IsWithinLimits request.now }
-    ensures reply { IfOk result (λ reply. reply ≡ found request.now (live_context number moment (contexts_seen book.old.contexts))) }
-    ensures kept { OnOk result (contexts_seen book.new.contexts
+) -> Result<Turned, NoMemory>
+    requires within { IsWithinLimits request.now }
+    requires few { AllLent (2 ^ 53) book.old.contexts }
+    ensures reply { AllLent most_lent book.old.contexts
+        → IfOk result (λ turned. turned_reply turned ≡ found request.now (live_context number moment (contexts_seen book.old.contexts))) }
+    ensures runs { IfOk result CanAnswer }
+    ensures planned { IfOk result (IsPlanned request.now) }
+    ensures leaves { IfOk result (Leaves number moment keep book.old.contexts book.new.contexts) }
+    ensures kept { AllLent most_lent book.old.contexts → OnOk result (contexts_seen book.new.contexts
         ≡ kept_longer moment number keep (is_answered request.now (live_context number moment (contexts_seen book.old.contexts))) (contexts_seen book.old.contexts)) }
+    ensures lends { Lends book.old.contexts book.new.contexts }
     ensures rise { Rises book.old.contexts }
     ensures numbers { (next : ℕ) → All (λ context. context.number < next) book.old.contexts → All (λ context. context.number < next) book.new.contexts }
     ensures limit { book.new.limit ≡ book.old.limit }
     ensures err { OnErr result (book.new ≡ book.old) }
 {
-    let reply = match book.find(number, moment) {
-        Ok(context) => search_over(alloc, context.owner.body(), request)?,
-        Err(_) => return Ok(Reply::Missing),
+    let context = match book.find(number, moment) {
+        Ok(context) => context,
+        Err(_) => return Ok(Turned::Now(Reply::Missing)),
     };
-    if is_found(&reply) {
-        keep_longer(book, moment, number, keep);
+    if let Some(refused) = refused(context.owner.body().mapping(), request) {
+        return Ok(Turned::Now(refused));
     }
-    Ok(reply)
+    if context.owner.lent() >= MOST_LENT {
+        // No pass is left, which needs a longer history than there may be.
+        return Ok(Turned::Now(Reply::Spent));
+    }
+    let request = request.copy(alloc)?;
+    let pass = lend(book, moment, number)?;
+    keep_longer(book, moment, number, keep);
+    Ok(Turned::Later(page(pass, request)))
+}
+
+/// A pass of a live context, whose owner may lend another. After an error nothing has changed.
+fn lend(book: &mut ContextBook, moment: Moment, number: u64) -> Result<Pass<View>, NoMemory>
+    requires room { MatchOption (live_one number moment book.old.contexts) ⊥ (λ context. context.owner.lent < most_lent) }
+    requires few { AllLent (2 ^ 53) book.old.contexts }
+    requires rise { Rises book.old.contexts }
+    ensures pass { IfOk result (λ pass. MatchOption (live_one number moment book.old.contexts) ⊥ (λ context. (pass.reader ≡ context.owner.reader) × (pass.body ≡ context.owner.body))) }
+    ensures lent { OnOk result (book.new.contexts ≡ map (lent_by number) book.old.contexts) }
+    ensures same { contexts_seen book.new.contexts ≡ contexts_seen book.old.contexts }
+    ensures lends { Lends book.old.contexts book.new.contexts }
+    ensures numbers { (next : ℕ) → All (λ context. context.number < next) book.old.contexts → All (λ context. context.number < next) book.new.contexts }
+    ensures limit { book.new.limit ≡ book.old.limit }
+    ensures err { OnErr result (book.new ≡ book.old) }
+{
+    match book.lend(number, moment) {
+        Ok(pass) => Ok(pass),
+        // The context is live, so that memory alone is wanting.
+        Err(_) => Err(NoMemory),
+    }
 }
 
 /// Keeps a live context longer, where that is asked.
 fn keep_longer(book: &mut ContextBook, moment: Moment, number: u64, keep: Option<KeepAlive>)
     requires { live_one number moment book.old.contexts ≢ None }
     ensures kept { contexts_seen book.new.contexts ≡ kept_longer moment number keep true (contexts_seen book.old.contexts) }
+    ensures on { book.new.contexts ≡ kept_on number moment keep book.old.contexts }
+    ensures lent { (n : ℕ) → AllLent n book.old.contexts → AllLent n book.new.contexts }
     ensures numbers { (next : ℕ) → All (λ context. context.number < next) book.old.contexts → All (λ context. context.number < next) book.new.contexts }
     ensures limit { book.new.limit ≡ book.old.limit }
 {
@@ -117,19 +160,11 @@ pub fn is_opened(reply: &Reply) -> bool
     }
 }
 
-fn is_found(reply: &Reply) -> bool
-    ensures { result ≡ is_found reply.now }
-{
-    match reply {
-        Reply::Found(_) => true,
-        _ => false,
-    }
-}
-
 /// Closes the live contexts that are named, and says how many shards they have, where that fits. Where none is, no memory is taken.
 pub fn close(book: &mut ContextBook, moment: Moment, which: &Which) -> Result<u64, NoMemory>
     ensures freed { IfOk result (λ freed. freed ≡ freed_where_fit moment which.now (contexts_seen book.old.contexts)) }
     ensures kept { OnOk result (book.new ≡ record book.old { contexts = filter (is_kept moment which.now) book.old.contexts }) }
+    ensures lends { Lends book.old.contexts book.new.contexts }
     ensures numbers { (next : ℕ) → All (λ context. context.number < next) book.old.contexts → All (λ context. context.number < next) book.new.contexts }
     ensures limit { book.new.limit ≡ book.old.limit }
     ensures some { OnErr result (0 < count_by (is_closed moment which.now) book.old.contexts) }
@@ -141,8 +176,20 @@ pub fn close(book: &mut ContextBook, moment: Moment, which: &Which) -> Result<u6
     Ok(freed)
 }
 
+/// Does a chore. It takes memory only where it lets contexts go.
+pub fn do_chore(book: &mut ContextBook, chore: Chore, moment: Moment) -> Result<(), NoMemory>
+    ensures left { OnOk result (book.new ≡ record book.old { contexts = left_by chore moment book.old.contexts }) }
+    ensures some { OnErr result (MayWant chore moment book.old.contexts) }
+    ensures err { OnErr result (book.new ≡ book.old) }
+{
+    match chore {
+        Chore::Reap => reap(book, moment),
+        Chore::NoteEnd { number: _, end: _ } => Ok(()),
+    }
+}
+
 /// Lets the contexts go that are live no more. Where none is, no memory is taken.
-pub fn reap(book: &mut ContextBook, moment: Moment) -> Result<(), NoMemory>
+fn reap(book: &mut ContextBook, moment: Moment) -> Result<(), NoMemory>
     ensures kept { OnOk result (book.new ≡ record book.old { contexts = filter (lives moment) book.old.contexts }) }
     ensures some { OnErr result (0 < count_by (has_ended moment) book.old.contexts) }
     ensures err { OnErr result (book.new ≡ book.old) }

@@ -9,6 +9,7 @@ mod index;
 mod looking;
 mod node;
 mod places;
+mod planning;
 mod publishing;
 mod shard;
 mod turned;
@@ -16,4 +17,4 @@ mod viewing;
 mod writing;
 
 pub use node::Core;
-pub use turned::{Brought, Chore, Gathered, Totals, Turned};
+pub use turned::{Brought, Chore, Gathered, Plan, Totals, Turned};

@@ -5,14 +5,16 @@ ghost use Rattle.list_machine.specs.Run.{IsWithinLimits};
 ghost use Rattle.list_machine.specs.State.{index_of, view_of as seen_of};
 ghost use Rattle.list_machine.specs.Step.{happen};
 ghost use Rattle.es_core.specs.Indexes.{AllNumbered, Moves, Placed};
+ghost use Rattle.es_core.specs.Plans.{CanAnswer, IsPlanned, turned_reply};
 ghost use Rattle.es_core.specs.Seen.{indexes_seen};
 
 use crate::index::Index;
 use crate::places::place_of;
-use crate::viewing::search_over;
+use crate::planning::page_of;
+use crate::turned::Turned;
 use context_book::View;
 use es_types::{IndexName, Items, NoMemory};
-use list_machine::{Reply, SearchRequest, Target};
+use list_machine::{Reply, SearchRequest, Target, refused};
 use std::alloc::Global;
 use std::collections::BTreeMap;
 use std::sync::Arc;
@@ -53,22 +55,28 @@ pub fn view_of(
     Ok(Some(view))
 }
 
-/// Searches an index as it is now.
+/// Plans a search of an index as it is now.
 pub fn search_index(
     alloc: Global,
     places: &BTreeMap<String, usize>,
     indexes: &mut Vec<Index>,
     name: &IndexName,
     request: &SearchRequest,
-) -> Result<Reply, NoMemory>
+) -> Result<Turned, NoMemory>
     requires placed { Placed places.now indexes.old.items }
     requires within { IsWithinLimits request.now }
     ensures placed { Placed places.now indexes.new.items }
-    ensures ok { IfOk result (Moves (λ state. happen state (Search (Target.Index name.now) request.now)) indexes.old.items indexes.new.items) }
+    ensures ok { IfOk result (λ turned. Moves (λ state. happen state (Search (Target.Index name.now) request.now)) indexes.old.items indexes.new.items (turned_reply turned)) }
+    ensures runs { IfOk result CanAnswer }
+    ensures planned { IfOk result (IsPlanned request.now) }
     ensures same { indexes_seen indexes.new.items ≡ indexes_seen indexes.old.items }
 {
-    match view_of(alloc, places, indexes, name)? {
-        Some(view) => search_over(alloc, &view, request),
-        None => Ok(Reply::NoIndex),
+    let Some(at) = place_of(places, name) else {
+        return Ok(Turned::Now(Reply::NoIndex));
+    };
+    if let Some(refused) = refused(&indexes[at].mapping, request) {
+        return Ok(Turned::Now(refused));
     }
+    let view = indexes[at].view(alloc)?;
+    Ok(Turned::Later(page_of(alloc, view, request)?))
 }

@@ -1,7 +1,8 @@
-ghost use Rattle.std.specs.Prelude.{◌≡◌, ◌<◌, ℕ, List, [], max, filter, count_by, All, IfOk, OnOk, OnErr, bytes_eq, position};
+ghost use Rattle.std.specs.Prelude.{◌≡◌, ◌<◌, ◌^◌, ℕ, List, [], max, All, IfOk, OnOk, OnErr, bytes_eq, position};
 ghost use Rattle.std.specs.BTreeMap.{get_by_text};
+ghost use Rattle.es_core.specs.Contexts.{AllLent};
 
-use crate::contexts::{close, is_opened, open, reap, search_pit};
+use crate::contexts::{close, do_chore, is_opened, open, search_pit};
 use crate::creating::{create, put_down};
 use crate::index::Index;
 use crate::looking::{seal, search_index, view_of};
@@ -27,12 +28,14 @@ pub struct Core {
     ghost placed: { (name : List ℕ) → get_by_text places name ≡ position (λ index. bytes_eq index.name name) indexes.items },
     ghost issued: { All (λ context. context.number < next) book.contexts },
     ghost limited: { book.limit ≡ limits.pits },
+    ghost few: { AllLent (2 ^ 53) book.contexts },
 }
 
 impl Core {
     ghost use Rattle.list_machine.specs.declared.event.Event.TheVariants.{OpenPit};
-    ghost use Rattle.context_book.specs.Books.{has_ended, lives};
     ghost use Rattle.list_machine.specs.Run.{IsBounded, PutsObject};
+    ghost use Rattle.es_core.specs.Plans.{CanAnswer, HandsOut, turned_reply};
+    ghost use Rattle.es_core.specs.Contexts.{MayWant, left_by};
     ghost use Rattle.es_core.specs.Stands.{Rests, Stands, StandsOn, Turns};
     ghost use Rattle.es_core.specs.Steps.{IsSame, Steps};
 
@@ -65,18 +68,23 @@ impl Core {
         requires object { PutsObject event.now }
         requires bounded { IsBounded event.now }
         ensures turns { IfOk result (Turns self.old self.new event.now moment) }
+        ensures runs { IfOk result CanAnswer }
+        ensures hands_out { IfOk result (HandsOut event.now (max self.old.moment moment) self.old.book.contexts self.new.book.contexts) }
+        ensures book { OnErr result (self.new.book ≡ self.old.book) }
         ensures err { OnErr result (StandsOn self.old self.new) }
     {
         sound_states();
         let later = self.moment.later(moment);
-        let reply = self.happen(event, later)?;
+        let turned = self.happen(event, later)?;
         self.moment = later;
-        Ok(Turned::Now(reply))
+        Ok(turned)
     }
 
-    fn happen(&mut self, event: &Event, moment: Moment) -> Result<Reply, NoMemory>
+    fn happen(&mut self, event: &Event, moment: Moment) -> Result<Turned, NoMemory>
         requires { IsBounded event.now }
-        ensures steps { IfOk result (Steps self.old self.new moment event.now) }
+        ensures steps { IfOk result (λ turned. Steps self.old self.new moment event.now (turned_reply turned)) }
+        ensures runs { IfOk result CanAnswer }
+        ensures hands_out { IfOk result (HandsOut event.now moment self.old.book.contexts self.new.book.contexts) }
         ensures err { OnErr result (IsSame self.old self.new) }
     {
         match event {
@@ -84,34 +92,39 @@ impl Core {
                 index,
                 shards,
                 mapping,
-            } => create(
+            } => Ok(Turned::Now(create(
                 self.alloc,
                 &mut self.places,
                 &mut self.indexes,
                 index,
                 *shards,
                 mapping,
-            ),
-            Event::Write { index, id, change } => write(
+            )?)),
+            Event::Write { index, id, change } => Ok(Turned::Now(write(
                 self.alloc,
                 &self.places,
                 &mut self.indexes,
                 index,
                 id,
                 change,
-            ),
-            Event::Seal { index } => seal(self.alloc, &self.places, &self.indexes, index),
-            Event::Publish { index, shard, upto } => {
-                publish(
-                    self.alloc,
-                    &self.places,
-                    &mut self.indexes,
-                    index,
-                    *shard,
-                    *upto,
-                )
+            )?)),
+            Event::Seal { index } => Ok(Turned::Now(seal(
+                self.alloc,
+                &self.places,
+                &self.indexes,
+                index,
+            )?)),
+            Event::Publish { index, shard, upto } => Ok(Turned::Now(publish(
+                self.alloc,
+                &self.places,
+                &mut self.indexes,
+                index,
+                *shard,
+                *upto,
+            )?)),
+            Event::OpenPit { index, keep } => {
+                Ok(Turned::Now(self.open_pit(moment, index, keep)?))
             }
-            Event::OpenPit { index, keep } => self.open_pit(moment, index, keep),
             Event::Search { target, request } => match target {
                 Target::Index(index) => search_index(
                     self.alloc,
@@ -126,9 +139,9 @@ impl Core {
             },
             Event::Close { which } => {
                 let freed = close(&mut self.book, moment, which)?;
-                Ok(Reply::Closed { freed })
+                Ok(Turned::Now(Reply::Closed { freed }))
             }
-            Event::Quiet => Ok(Reply::Done),
+            Event::Quiet => Ok(Turned::Now(Reply::Done)),
         }
     }
 
@@ -158,19 +171,18 @@ impl Core {
         Ok(reply)
     }
 
-    /// Takes the step of a Quiet, and lets go exactly the contexts that are live no more, which no reply shows. After `NoMemory`
-    /// nothing has changed, and where none has ended it doesn't come.
+    /// Takes the step of a Quiet, and does a chore, which no reply shows: at a reaping exactly the contexts that are live no more are
+    /// let go. After `NoMemory` nothing has changed. It comes at a reaping alone, where a context is live no more.
     pub fn quiet(&mut self, chore: Chore, moment: Moment) -> Result<Gathered, NoMemory>
         ensures rests { OnOk result (Rests self.old self.new moment) }
-        ensures reaped { OnOk result (self.new.book ≡ record self.old.book { contexts = filter (lives (max self.old.moment moment)) self.old.book.contexts }) }
-        ensures some { OnErr result (0 < count_by (has_ended (max self.old.moment moment)) self.old.book.contexts) }
+        ensures left { OnOk result (self.new.book ≡ record self.old.book { contexts = left_by chore (max self.old.moment moment) self.old.book.contexts }) }
+        ensures book { OnErr result (self.new.book ≡ self.old.book) }
+        ensures some { OnErr result (MayWant chore (max self.old.moment moment) self.old.book.contexts) }
         ensures err { OnErr result (StandsOn self.old self.new) }
     {
         sound_states();
         let later = self.moment.later(moment);
-        match chore {
-            Chore::Reap => reap(&mut self.book, later)?,
-        }
+        do_chore(&mut self.book, chore, later)?;
         self.moment = later;
         Ok(Gathered::Nothing)
     }

@@ -1,4 +1,6 @@
-use list_machine::Reply;
+use context_book::{PageEnd, View};
+use list_machine::{Reply, SearchRequest};
+use reader_gate::Pass;
 
 /// What a caller brings to a turn: nothing, so far.
 #[derive(Clone, Copy)]
@@ -6,17 +8,32 @@ pub enum Brought {
     Nothing,
 }
 
-/// What a turn answers: the reply.
+/// What is left to do behind a turn. It has all that this takes, so that no later turn changes what it is answered.
+#[derive(Drop)]
+pub enum Plan {
+    /// A page of the view that the pass holds, behind so many pages, whose end is known so far. A search has none before it.
+    Page {
+        pass: Pass<View>,
+        request: SearchRequest,
+        pages: u64,
+        end: PageEnd,
+    },
+}
+
+/// What a turn answers: the reply, or a plan whose running gives it.
 #[derive(Drop)]
 pub enum Turned {
     Now(Reply),
+    Later(Plan),
 }
 
 /// What a quiet does beside.
-#[derive(Clone, Copy)]
+#[derive(Drop)]
 pub enum Chore {
     /// Lets the contexts go that are live no more.
     Reap,
+    /// Notes how far the pages of the scroll of that number are known. There are no scrolls yet, so it notes nothing.
+    NoteEnd { number: u64, end: PageEnd },
 }
 
 /// What a quiet gathers: nothing, so far.

@@ -1,14 +1,10 @@
 ghost use Rattle.std.specs.Prelude.{◌≡◌, ◌≤◌, length, map, All, IfOk};
-ghost use Rattle.std.specs.Arc.{arc_value};
-ghost use Rattle.list_machine.specs.Run.{IsWithinLimits};
 ghost use Rattle.list_machine.specs.State.{most_shards};
-ghost use Rattle.list_machine.specs.Step.{search_reply};
 ghost use Rattle.list_machine.specs.Stores.{view_over};
 
 use crate::shard::Shard;
 use context_book::{ShardView, View};
 use es_types::{Copied, IndexName, Items, Mapping, NoMemory};
-use list_machine::{Reply, SearchRequest, ViewRef, search_view};
 use std::alloc::Global;
 use std::sync::Arc;
 
@@ -30,18 +26,4 @@ pub fn make_view(
     let name = name.copy(alloc)?;
     let mapping = Arc::new(alloc, mapping.copy(alloc)?)?;
     Ok(View::make(name, mapping, Items::of(views)))
-}
-
-/// What a search of a view is answered.
-pub fn search_over(alloc: Global, view: &View, request: &SearchRequest) -> Result<Reply, NoMemory>
-    requires { IsWithinLimits request.now }
-    ensures { IfOk result (λ reply. reply ≡ search_reply view.now request.now) }
-{
-    let shards = view.shard_refs(alloc)?;
-    let view = ViewRef {
-        index: view.index(),
-        mapping: view.mapping(),
-        shards: &shards,
-    };
-    search_view(alloc, &view, request)
 }

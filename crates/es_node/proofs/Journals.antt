@@ -11,8 +11,10 @@ use Rattle.list_machine.specs.declared.event.Limits.{Limits}
 use Rattle.list_machine.specs.declared.event.Reply.{Reply}
 use Rattle.list_machine.specs.declared.event.Reply.TheVariants.{Spent}
 use Rattle.list_machine.specs.Run.{History, reply_of, IsBounded, PutsObject}
-use Rattle.list_machine.specs.Serving.{Asked, Beside, GrowsBeside, IsAskable, IsKept, MayHaveAsked, asked, asking, besides}
+use Rattle.list_machine.specs.Serving.{Adds, Asked, Beside, GrowsBeside, IsAskable, IsKept, MayHaveAsked, asked, asking, besides}
 use Rattle.es_core.specs.declared.node.Core.{Core}
+use Rattle.es_core.specs.declared.turned.Turned.{Turned}
+use Rattle.es_core.specs.Plans.{turned_reply}
 use Rattle.es_core.specs.Stands.{Rests, Stands, StandsOn}
 use Rattle.es_node.specs.Solo.{Advances, IsOwn, IsRunning, rest}
 use Rattle.es_rest.proofs.Talks.{grows_not}
@@ -47,17 +49,21 @@ spent limits moment event history kept full =
     inr (record { beside = grows_not 0 4 moment history; full = omega (arith, kept.room, full); is = refl })
 
 -- the entry that was asked stands at the end
+abbrev adds_one : (moment : ℕ) (event : Event) (history new : History) → new ≡ history ++ asked 0 moment event ∷ [] → Adds 0 4 history new (asked 0 moment event)
+adds_one moment event history new is = record {
+  before = [];
+  after = [];
+  grows = is ∙ ap (λ (l : History). l ++ asked 0 moment event ∷ []) (sym (append-nil history));
+  beside = record { none_asked = All-nil _; quiet = All-nil _; few = omega arith };
+}
+
+-- and this is the reply to it
 added : (limits : Limits) (moment : ℕ) (event : Event) (history new : History) (reply : Reply)
     → new ≡ history ++ asked 0 moment event ∷ [] → reply ≡ reply_of limits history (asked 0 moment event)
     → Asked limits 0 4 history new (asked 0 moment event) reply
 added limits moment event history new reply is said =
     inl (record {
-      adds = record {
-        before = [];
-        after = [];
-        grows = is ∙ ap (λ (l : History). l ++ asked 0 moment event ∷ []) (sym (append-nil history));
-        beside = record { none_asked = All-nil _; quiet = All-nil _; few = omega arith };
-      };
+      adds = adds_one moment event history new is;
       is = said ∙ ap (λ (l : History). reply_of limits l (asked 0 moment event)) (sym (append-nil history));
     })
 
@@ -66,19 +72,17 @@ room_left : (limits : Limits) (history : History) → IsKept limits history → 
     → length history < 9007199254740992
 room_left limits history kept room = omega (arith, kept.bounded, room)
 
--- what a step of the core says of the history
-pub stepped : (limits : Limits) (moment : ℕ) (event : Event) (old new : Core) (history now : History)
+-- what the answer to a turn of the core says of the history: where its plan finds no memory, the entry stands
+pub answered : (limits : Limits) (moment : ℕ) (event : Event) (old new : Core) (history now : History) (turned : Turned)
     {E : Type 0} (r : Result Reply E)
-    → IsRunning limits old history → length history < limits.entries
-    → IfOk r (Advances old new (asked 0 moment event)) → IfOk r (λ _. now ≡ history ++ asked 0 moment event ∷ [])
-    → OnErr r (now ≡ history)
+    → IsRunning limits old history → length history < limits.entries → Advances old new (asked 0 moment event) turned
+    → now ≡ history ++ asked 0 moment event ∷ [] → IfOk r (λ reply. reply ≡ turned_reply turned)
     → MatchResult r (λ reply. Asked limits 0 4 history now (asked 0 moment event) reply)
     (λ _. MayHaveAsked 0 4 history now (asked 0 moment event))
-stepped limits moment event old new history now (Ok reply) running room advances is same =
+answered limits moment event old new history now turned (Ok reply) running room advances is says =
     added limits moment event history now reply is
-    (advances limits history running.stands (room_left limits history running.kept room)).1
-stepped limits moment event old new history now (Err e) running room advances is same =
-    subst (λ (l : History). MayHaveAsked 0 4 history l (asked 0 moment event)) (sym same) (inr (grows_not 0 4 moment history))
+    (says ∙ (advances limits history running.stands (room_left limits history running.kept room)).1)
+answered limits moment event old new history now turned (Err e) running room advances is says = inl (adds_one moment event history now is)
 
 -- one entry more
 grown : (limits : Limits) (entry : Entry) (old new : Core) (history : History) → IsRunning limits old history
@@ -106,12 +110,12 @@ stayed limits old new history now running same stays =
 
 -- the service goes on, whether the step was taken or memory was wanted
 pub runs_on : (limits : Limits) (moment : ℕ) (event : Event) (old new : Core) (history now : History)
-    {E : Type 0} (r : Result Reply E)
+    {E : Type 0} (r : Result Turned E)
     → IsRunning limits old history → length history < limits.entries
     → PutsObject event → IfOk r (Advances old new (asked 0 moment event))
     → IfOk r (λ _. now ≡ history ++ asked 0 moment event ∷ [])
     → OnErr r (StandsOn old new) → OnErr r (now ≡ history) → IsRunning limits new now
-runs_on limits moment event old new history now (Ok reply) running room object advances grows same stays =
+runs_on limits moment event old new history now (Ok turned) running room object advances grows same stays =
     subst (λ (l : History). IsRunning limits new l) (sym grows)
     (grown limits (asked 0 moment event) old new history running room object (inl refl)
     (advances limits history running.stands (room_left limits history running.kept room)).0)

@@ -1,3 +1,4 @@
+pub mod Viewed
 pub mod Journals
 pub mod CommandWords
 pub mod AtMoment

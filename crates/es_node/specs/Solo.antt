@@ -3,10 +3,11 @@ use Rattle.std.specs.Prelude.{◌≡◌, ◌⊎◌, ℕ, ◌<◌, List, [], ◌�
 use Rattle.list_machine.specs.declared.event.Entry.{Entry}
 use Rattle.list_machine.specs.declared.event.Event.TheVariants.{Quiet}
 use Rattle.list_machine.specs.declared.event.Limits.{Limits}
-use Rattle.list_machine.specs.declared.event.Reply.{Reply}
 use Rattle.list_machine.specs.Run.{History, reply_of}
 use Rattle.list_machine.specs.Serving.{IsKept}
 use Rattle.es_core.specs.declared.node.Core.{Core}
+use Rattle.es_core.specs.declared.turned.Turned.{Turned}
+use Rattle.es_core.specs.Plans.{turned_reply}
 use Rattle.es_core.specs.Stands.{Stands}
 
 pub record Journal : Type 0 where
@@ -24,11 +25,11 @@ AreOwn history = All IsOwn history
 abbrev pub rest : ℕ → Entry
 rest moment = record { who = 1; moment = moment; event = Quiet }
 
--- whatever history the core stood for, it now stands for that and the entry, and this is the machine's reply
-abbrev pub Advances : Core → Core → Entry → Reply → Type 0
-Advances old new entry reply =
+-- whatever history the core stood for, it now stands for that and the entry, and this answers the machine's reply
+abbrev pub Advances : Core → Core → Entry → Turned → Type 0
+Advances old new entry turned =
     (limits : Limits) (history : History) → Stands limits old history → length history < 9007199254740992
-    → Stands limits new (history ++ entry ∷ []) × (reply ≡ reply_of limits history entry)
+    → Stands limits new (history ++ entry ∷ []) × (turned_reply turned ≡ reply_of limits history entry)
 
 -- the core stands for the history
 pub record IsRunning (limits : Limits) (core : Core) (history : List Entry) : Type 0 where

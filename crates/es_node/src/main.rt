@@ -11,7 +11,10 @@ mod kept;
 mod laws;
 #[cfg(test)]
 mod limited;
+#[cfg(test)]
+mod planned;
 mod run;
+mod search_exec;
 #[cfg(test)]
 mod searched;
 #[cfg(test)]

@@ -1,9 +1,12 @@
-ghost use Rattle.std.specs.Prelude.{◌≡◌, ◌+◌, ◌<◌, ◌≤◌, ◌^◌, ◌++◌, [], ◌∷◌, IfOk, OnOk, OnErr};
+ghost use Rattle.std.specs.Prelude.{◌≡◌, ◌+◌, ◌<◌, ◌≤◌, ◌^◌, ◌++◌, [], ◌∷◌, max, IfOk, OnOk, OnErr};
 ghost use Rattle.list_machine.specs.Run.{IsBounded, PutsObject};
 ghost use Rattle.list_machine.specs.Serving.{IsKept};
-ghost use Rattle.es_core.specs.Stands.{Replies, Rests, StandsOn};
+ghost use Rattle.es_core.specs.Contexts.{left_by};
+ghost use Rattle.es_core.specs.Plans.{CanAnswer, turned_reply};
+ghost use Rattle.es_core.specs.Stands.{Rests, StandsOn};
 ghost use Rattle.es_node.specs.Solo.{Advances, AreOwn, rest};
 
+use crate::search_exec::run;
 use es_core::{Brought, Chore, Core, Turned};
 use es_types::{Moment, NoMemory};
 use list_machine::{Entry, Event, Limits, Reply, Service};
@@ -13,6 +16,7 @@ use std::marker::Model;
 /// A service with one caller: the core, and the journal of all entries so far.
 #[derive(Drop)]
 pub struct Solo {
+    alloc: Global,
     limits: Limits,
     core: Core,
     journal: Vec<Entry>,
@@ -42,6 +46,7 @@ impl Solo {
     {
         let core = Core::make(alloc, limits)?;
         Ok(Solo {
+            alloc,
             limits,
             core,
             journal: Vec::new(alloc),
@@ -54,6 +59,7 @@ impl Solo {
         ensures kept { IsKept self.limits self.history }
     {
         let Solo {
+            alloc: _,
             limits: _,
             core,
             journal: _,
@@ -62,20 +68,23 @@ impl Solo {
     }
 }
 
-// The reply that a turn gives.
-fn reply_of(turned: Turned) -> Reply
-    ensures given { (reply : Reply) → Replies reply turned → result ≡ reply }
+// The reply that a turn gives, or that the running of its plan gives beside the core.
+fn answer(alloc: Global, turned: Turned) -> Result<Reply, NoMemory>
+    requires { CanAnswer turned }
+    ensures { IfOk result (λ reply. reply ≡ turned_reply turned) }
 {
     match turned {
-        Turned::Now(reply) => reply,
+        Turned::Now(reply) => Ok(reply),
+        Turned::Later(plan) => run(alloc, plan),
     }
 }
 
 // Takes the step of an entry and writes it down. Nothing changes where memory is wanted.
-fn advance(core: &mut Core, journal: &mut Vec<Entry>, entry: Entry) -> Result<Reply, NoMemory>
+fn advance(core: &mut Core, journal: &mut Vec<Entry>, entry: Entry) -> Result<Turned, NoMemory>
     requires object { PutsObject entry.event }
     requires bounded { IsBounded entry.event }
     ensures advances { IfOk result (Advances core.old core.new entry) }
+    ensures runs { IfOk result CanAnswer }
     ensures journal { IfOk result (λ _. journal.new.items ≡ journal.old.items ++ entry ∷ []) }
     ensures core_kept { OnErr result (StandsOn core.old core.new) }
     ensures journal_kept { OnErr result (journal.new.items ≡ journal.old.items) }
@@ -83,7 +92,7 @@ fn advance(core: &mut Core, journal: &mut Vec<Entry>, entry: Entry) -> Result<Re
     journal.reserve(1)?;
     let turned = core.turn(&entry.event, entry.moment, Brought::Nothing)?;
     match journal.push(entry) {
-        Ok(()) => Ok(reply_of(turned)),
+        Ok(()) => Ok(turned),
         Err(_) => unreachable!(),
     }
 }
@@ -91,6 +100,7 @@ fn advance(core: &mut Core, journal: &mut Vec<Entry>, entry: Entry) -> Result<Re
 // Lets go what is over, and writes down the Quiet of it. Nothing changes where memory is wanted.
 fn reap(core: &mut Core, journal: &mut Vec<Entry>, moment: Moment) -> Result<(), NoMemory>
     ensures rests { OnOk result (Rests core.old core.new moment) }
+    ensures left { OnOk result (core.new.book.contexts ≡ left_by Chore.Reap (max core.old.moment moment) core.old.book.contexts) }
     ensures journal { OnOk result (journal.new.items ≡ journal.old.items ++ rest moment ∷ []) }
     ensures core_kept { OnErr result (StandsOn core.old core.new) }
     ensures journal_kept { OnErr result (journal.new.items ≡ journal.old.items) }
@@ -124,7 +134,8 @@ impl Service for Solo {
             moment,
             event,
         };
-        advance(&mut self.core, &mut self.journal, entry)
+        let turned = advance(&mut self.core, &mut self.journal, entry)?;
+        answer(self.alloc, turned)
     }
 
     fn help(&mut self, _moment: Moment) -> Result<bool, NoMemory> {

@@ -1,7 +1,10 @@
+ghost use Rattle.std.specs.Prelude.{◌≡◌, IfOk};
+
 use es_query::Query;
 use es_sort::{Keys, SortSpec};
-use es_types::{Bytes, DocId, IndexName, Items, Value};
+use es_types::{Bytes, Copied, DocId, IndexName, Items, NoMemory, Value};
 use slice_rule::Slice;
+use std::alloc::Global;
 
 /// What a search asks for: the rows that match, of a slice where one is given, in the order of `sort`, and of those strictly
 /// behind the values `after`, where they are given, at most `size` without the first `from`. The number of phases is that of its
@@ -15,6 +18,32 @@ pub struct SearchRequest {
     pub after: Option<Keys>,
     pub slice: Option<Slice>,
     pub batch: u32,
+}
+
+impl Copied for SearchRequest {
+    fn copy(&self, alloc: Global) -> Result<SearchRequest, NoMemory> {
+        let query = self.query.copy(alloc)?;
+        let sort = self.sort.copy(alloc)?;
+        let after = copy_after(alloc, &self.after)?;
+        Ok(SearchRequest {
+            query,
+            sort,
+            from: self.from,
+            size: self.size,
+            after,
+            slice: self.slice,
+            batch: self.batch,
+        })
+    }
+}
+
+fn copy_after(alloc: Global, after: &Option<Keys>) -> Result<Option<Keys>, NoMemory>
+    ensures { IfOk result (λ it. it ≡ after.now) }
+{
+    match after {
+        Some(keys) => Ok(Some(keys.copy(alloc)?)),
+        None => Ok(None),
+    }
 }
 
 /// A document that a search found, with the values that are shown of those that it was ordered by.

@@ -1,10 +1,10 @@
-ghost use Rattle.std.specs.Prelude.{◌≡◌, ℕ, ◌==◌, List, find, length, map, unwrap_or, All, IfOk, OnErr, option_copied};
+ghost use Rattle.std.specs.Prelude.{◌≡◌, ℕ, ◌==◌, List, find, is_none, length, map, unwrap_or, All, IfOk, OnErr, option_copied};
 ghost use Rattle.es_types.specs.declared.row.Row.{Row as RowOf};
 ghost use Rattle.list_machine.specs.declared.event.Event.TheVariants.{Search};
 ghost use Rattle.list_machine.specs.declared.event.Reply.TheVariants.{Found};
 ghost use Rattle.list_machine.specs.Run.{IsWithinLimits};
 ghost use Rattle.list_machine.specs.State.{Context, Index, IsSoundShard, State, context_of, index_of};
-ghost use Rattle.list_machine.specs.Step.{happen, search_index, search_pit, search_reply};
+ghost use Rattle.list_machine.specs.Step.{happen, is_fit, search_index, search_pit, search_reply};
 ghost use Rattle.list_machine.specs.Stores.{AreBounded, IsCountable, IsCounted, IsCountedIndex, IsSmall, bounds_of_each, contexts_seen, indexes_seen, most_entries, reply_at, state_seen, view_at, view_over, view_seen};
 ghost use Rattle.list_machine.specs.Views.{answer};
 
@@ -155,11 +155,7 @@ fn search_rows(
 }
 
 /// What a search of a view is answered.
-pub fn search_view(
-    alloc: Global,
-    view: &ViewRef,
-    request: &SearchRequest,
-) -> Result<Reply, NoMemory>
+fn search_view(alloc: Global, view: &ViewRef, request: &SearchRequest) -> Result<Reply, NoMemory>
     requires bounded { AreBounded view.now }
     requires countable { IsCountable (view_at view.now) }
     requires within { IsWithinLimits request.now }
@@ -171,10 +167,11 @@ pub fn search_view(
     Ok(Reply::Found(answer(alloc, view, request)?))
 }
 
-/// Why a search doesn't fit the mapping: by its query, its sort, or the values that it goes on behind.
-fn refused(mapping: &Mapping, request: &SearchRequest) -> Option<Reply>
-    ensures { (index : List ℕ) (shards : List (List RowOf)) → search_reply (view_over index mapping.now shards) request.now
+/// Why a search doesn't fit the mapping: by its query, its sort, or the values that it goes on behind. It takes no memory.
+pub fn refused(mapping: &Mapping, request: &SearchRequest) -> Option<Reply>
+    ensures reply { (index : List ℕ) (shards : List (List RowOf)) → search_reply (view_over index mapping.now shards) request.now
         ≡ unwrap_or result (Found (answer (view_over index mapping.now shards) request.now request.now.from)) }
+    ensures fit { (index : List ℕ) (shards : List (List RowOf)) → is_fit (view_over index mapping.now shards) request.now ≡ is_none result }
 {
     if request.query.fit(mapping).is_err() {
         return Some(Reply::BadQuery);

@@ -1,7 +1,8 @@
 use Rattle.std.proofs.Common.{Option, ℕ, true, ◌+◌, ◌<◌, All, ap, arith, subst, sym, ◌∙◌}
 use Rattle.context_book.specs.declared.context.Context.{Context}
 use Rattle.context_book.specs.Books.{Book}
-use Rattle.es_core.specs.Contexts.{contexts_seen, kept_longer}
+use Rattle.es_core.specs.Contexts.{AllLent, contexts_seen, kept_longer}
+use Rattle.es_core.proofs.Lending.{lent_kept}
 use Rattle.es_core.proofs.Searches.{kept_numbers, kept_seen, touched}
 use Rattle.es_core.proofs.contexts.keep_longer.Goals as goal
 
@@ -20,3 +21,17 @@ returns-in-Some-clause-numbers c next below =
     let now = touched c.args.number c.args.moment (c.millis.result + c.millis-in-Some.result) c.in-Some.keep book c.touch.new.self c.touch.result (omega arith)
     c.touch.ensures.missing c.requires c.touch.ensures.ok in
     subst (λ (it : Book). All (λ (context : Context). context.number < next) it.contexts) (sym now) (kept_numbers next c.args.number (c.args.moment + c.in-Some.keep) book.contexts below)
+
+pub returns-in-Some-clause-lent : goal.returns-in-Some-clause-lent
+returns-in-Some-clause-lent c n all =
+    let book = c.args.book.now in
+    let now = touched c.args.number c.args.moment (c.millis.result + c.millis-in-Some.result) c.in-Some.keep book c.touch.new.self c.touch.result (omega arith)
+    c.touch.ensures.missing c.requires c.touch.ensures.ok in
+    subst (λ (it : Book). AllLent n it.contexts) (sym now) (lent_kept n c.args.number (c.args.moment + c.in-Some.keep) book.contexts all)
+
+pub returns-in-Some-clause-on : goal.returns-in-Some-clause-on
+returns-in-Some-clause-on c =
+    let book = c.args.book.now in
+    let now = touched c.args.number c.args.moment (c.millis.result + c.millis-in-Some.result) c.in-Some.keep book c.touch.new.self c.touch.result (omega arith)
+    c.touch.ensures.missing c.requires c.touch.ensures.ok in
+    rw c.in-Some.is (ap (λ (it : Book). it.contexts) now)

@@ -2,6 +2,4 @@
 use Rattle.es_node.proofs.solo.advance.Goals as goal
 
 pub returns-clause-advances : goal.returns-clause-advances
-returns-clause-advances c = λ limits history stands small.
-    let t = c.in_ok-turned.ensures.turns limits history c.args.entry.who stands small in
-    (t.0, c.reply_of.ensures.given _ t.1)
+returns-clause-advances c = λ limits history stands small. c.in_ok-turned.ensures.turns limits history c.args.entry.who stands small

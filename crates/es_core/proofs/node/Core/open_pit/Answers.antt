@@ -1,11 +1,11 @@
-use Rattle.std.proofs.Common.{Bool, List, ℕ, ◌+◌, ap, arith, cond, sym, ◌∙◌}
+use Rattle.std.proofs.Common.{Bool, List, ℕ, ◌+◌, ap, arith, cond, subst, sym, ◌∙◌}
 use Rattle.std.specs.Arc.{arc_value}
 use Rattle.std.specs.Option.{option_map}
 use Rattle.context_book.specs.Books.{Book}
 use Rattle.list_machine.specs.declared.event.Reply.{Reply}
 use Rattle.list_machine.specs.State.{Context}
 use Rattle.es_core.specs.declared.node.Core.{Core}
-use Rattle.es_core.specs.Contexts.{contexts_seen}
+use Rattle.es_core.specs.Contexts.{Lends, contexts_seen}
 use Rattle.es_core.specs.Seen.{indexes_seen}
 use Rattle.es_core.proofs.StepLemmas.{open_steps}
 use Rattle.es_core.proofs.node.Core.open_pit.Goals as goal
@@ -33,5 +33,9 @@ returns-clause-steps c =
       contexts = elim c.if-is_opened.branch [
         | then-is_opened w ↦ c.in_ok-reply.ensures.opened ∙ ap paired (sym (ap (λ (it : Core). it.book) w.self-is))
         | else-is_opened w ↦ c.in_ok-reply.ensures.opened ∙ ap paired (sym (ap (λ (it : Core). it.book) w.self-is))
+      ];
+      lends = elim c.if-is_opened.branch [
+        | then-is_opened w ↦ subst (λ (it : Core). Lends core.book.contexts it.book.contexts) (sym w.self-is) c.open.ensures.lends
+        | else-is_opened w ↦ subst (λ (it : Core). Lends core.book.contexts it.book.contexts) (sym w.self-is) c.open.ensures.lends
       ];
     })

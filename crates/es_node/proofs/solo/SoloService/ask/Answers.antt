@@ -3,7 +3,7 @@ use Rattle.std.proofs.Common.{subst, arith}
 use Rattle.list_machine.specs.declared.event.Reply.TheVariants.{Spent}
 use Rattle.list_machine.specs.Serving.{Asked, asked}
 use Rattle.es_node.specs.Solo.{Journal, IsRunning}
-use Rattle.es_node.proofs.Journals.{askable_bounded, askable_object, spent, stepped, runs_on}
+use Rattle.es_node.proofs.Journals.{answered, askable_bounded, askable_object, runs_on, spent}
 use Rattle.es_node.proofs.solo.SoloService.ask.Goals as goal
 
 pub returns-then-len-self-clause-asked : goal.returns-then-len-self-clause-asked
@@ -32,9 +32,9 @@ pub returns-clause-asked : goal.returns-clause-asked
 returns-clause-asked c =
     let s = c.self.inside in
     rw (← c.self.view_is)
-    (stepped s.limits c.args.moment c.args.event s.core c.advance.new.core s.journal.items c.advance.new.journal.items
-    c.advance.result c.self.invariant (omega (arith, c.if-len-self.false, c.len.ensures))
-    c.advance.ensures.advances c.advance.ensures.journal c.advance.ensures.journal_kept)
+    (answered s.limits c.args.moment c.args.event s.core c.advance.new.core s.journal.items c.advance.new.journal.items c.in_ok-turned.turned
+    c.answer.result c.self.invariant (omega (arith, c.if-len-self.false, c.len.ensures))
+    c.in_ok-turned.ensures.advances c.in_ok-turned.ensures.journal c.answer.ensures)
 
 pub returns-clause-kept : goal.returns-clause-kept
 returns-clause-kept c =
