@@ -11,8 +11,6 @@ mod kept;
 mod laws;
 #[cfg(test)]
 mod limited;
-#[cfg(test)]
-mod planned;
 mod run;
 mod search_exec;
 #[cfg(test)]
