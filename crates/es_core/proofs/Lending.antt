@@ -1,8 +1,8 @@
 -- How many passes the owners of a book have lent.
-use Rattle.std.proofs.Common.{◌≡◌, ◌≢◌, ℕ, ◌+◌, ◌<◌, ◌≤◌, Bool, true, false, cond, eqb, min, max, List, [], ◌∷◌, ◌++◌, zero, suc, get_or, Option, Some, None, Result, Ok, Err, OnOk, OnErr, MatchOption, All, map, refl, sym, ap, subst, ◌∙◌, ⊎_elim, arith}
+use Rattle.std.proofs.Common.{◌≡◌, ◌≢◌, ℕ, ◌+◌, ◌<◌, ◌≤◌, Bool, true, false, cond, eqb, min, max, List, [], ◌∷◌, zero, suc, get_or, Option, Some, None, Result, Ok, Err, OnOk, OnErr, MatchOption, All, map, refl, sym, ap, subst, ◌∙◌, ⊎_elim, arith}
 use Rattle.std.specs.List.{filter, find}
 use Rattle.std.proofs.lemmas.Bool.{cases_Bool}
-use Rattle.std.proofs.lemmas.List.Elements.{All-cons, All-filter, All-head, All-map, All-nil, All-push, All-tail, All-weaker}
+use Rattle.std.proofs.lemmas.List.Elements.{All-cons, All-filter, All-head, All-map, All-nil, All-tail, All-weaker}
 use Rattle.std.proofs.lemmas.Option.{none-some, same_Some}
 use Rattle.context_book.specs.declared.context.Context.{Context}
 use Rattle.context_book.specs.Books.{Book, Rises, live_one, lives}
@@ -52,11 +52,6 @@ pub lends_parted : (p : Context → Bool) (old new : Book) {A E : Type 0} (r : R
     → Lends old.contexts new.contexts
 lends_parted p old new (Ok a) is same = subst (λ (it : Book). Lends old.contexts it.contexts) (sym is) (lends_part p old.contexts)
 lends_parted p old new (Err e) is same = lends_same old.contexts new.contexts (ap (λ (it : Book). it.contexts) same)
-
--- where one comes that has lent nothing
-pub lends_opened : (contexts : List Context) (new : Context) → new.owner.lent ≡ 0 → Lends contexts (contexts ++ new ∷ [])
-lends_opened contexts new none n few all =
-    All-push (lent (min (n + 1) 9007199254740992)) contexts new (lent_on n contexts few all) (omega (arith, none, few))
 
 -- ---- one that lends
 

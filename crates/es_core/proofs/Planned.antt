@@ -8,14 +8,13 @@ use Rattle.list_machine.specs.declared.event.Reply.{Reply}
 use Rattle.list_machine.specs.declared.event.Reply.TheVariants.{BadAfter, BadQuery, BadSort, Found}
 use Rattle.list_machine.specs.declared.search.Answer.{Answer}
 use Rattle.list_machine.specs.declared.search.SearchRequest.{SearchRequest}
-use Rattle.list_machine.specs.Run.{IsWithinLimits}
 use Rattle.list_machine.specs.Step.{goes_on, is_fit, search_reply}
 use Rattle.list_machine.specs.Stores.{view_over}
 use Rattle.list_machine.specs.Views.{View, answer}
 use Rattle.es_core.specs.declared.turned.Plan.{Plan}
 use Rattle.es_core.specs.declared.turned.Plan.TheVariants.{Page}
 use Rattle.es_core.specs.declared.turned.Turned.TheVariants.{Later}
-use Rattle.es_core.specs.Plans.{CanRun, IsFirstPage, IsPlanned, first_page, is_found, plan_reply}
+use Rattle.es_core.specs.Plans.{IsFirstPage, IsPlanned, first_page, is_found, plan_reply}
 
 -- a plan of a pass and a request
 pub planned : (view : View) (request asked : SearchRequest) (pass : Held View) (plan : Plan) → plan ≡ first_page pass asked → pass.body ≡ view → asked ≡ request
@@ -25,10 +24,6 @@ planned view request asked pass plan is body copied = subst (IsFirstPage view re
 -- its running answers what the request asks of the view
 pub page_replies : (view : View) (request : SearchRequest) (plan : Plan) → IsFirstPage view request plan → plan_reply plan ≡ Found (answer view request request.from)
 page_replies view request (Page pass asked pages end) is = ap₂ (λ (it : View) (what : SearchRequest). Found (answer it what what.from)) is.0 is.1.0
-
--- and it can be run
-pub page_runs : (view : View) (request : SearchRequest) (plan : Plan) → IsFirstPage view request plan → IsWithinLimits request → CanRun plan
-page_runs view request (Page pass asked pages end) is within = (subst IsWithinLimits (sym is.1.0) within, is.1.1)
 
 -- what a test by its mapping says of a search of a view
 pub refusal : (view : View) (mapping : List Field) (request : SearchRequest) (result : Option Reply) → mapping ≡ view.mapping
