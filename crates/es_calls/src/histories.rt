@@ -41,7 +41,7 @@ fn take_quiet(core: &mut Core, moment: Moment, reaps: bool) -> Result<Reply, NoM
     Ok(Reply::Done)
 }
 
-fn take_turn(core: &mut Core, event: Event, moment: Moment) -> Result<Turned, NoMemory>
+pub(crate) fn take_turn(core: &mut Core, event: Event, moment: Moment) -> Result<Turned, NoMemory>
     requires object { PutsObject event }
     requires bounded { IsBounded event }
     ensures { IfOk result CanAnswer }
@@ -50,7 +50,7 @@ fn take_turn(core: &mut Core, event: Event, moment: Moment) -> Result<Turned, No
 }
 
 // The page of a plan.
-fn run(alloc: Global, plan: Plan) -> Result<Reply, NoMemory>
+pub(crate) fn run(alloc: Global, plan: Plan) -> Result<Reply, NoMemory>
     requires { CanRun plan }
 {
     let Plan::Page {
@@ -88,7 +88,7 @@ fn ask_machine(alloc: Global, machine: &mut Machine, asked: &str) -> Result<Repl
     Ok(take_step(machine, Entry { who, moment, event })?)
 }
 
-fn ask_core(alloc: Global, core: &mut Core, asked: &str) -> Result<Reply, Fail> {
+pub(crate) fn ask_core(alloc: Global, core: &mut Core, asked: &str) -> Result<Reply, Fail> {
     let moment = moment(asked)?;
     if asked.contains(" quiet") {
         return Ok(take_quiet(core, moment, asked.ends_with(" quiet"))?);

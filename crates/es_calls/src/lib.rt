@@ -16,6 +16,8 @@ mod lent;
 #[cfg(test)]
 mod outside;
 #[cfg(test)]
+mod plans;
+#[cfg(test)]
 mod queries;
 #[cfg(test)]
 mod readers;
