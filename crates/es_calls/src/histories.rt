@@ -88,13 +88,41 @@ fn ask_machine(alloc: Global, machine: &mut Machine, asked: &str) -> Result<Repl
     Ok(take_step(machine, Entry { who, moment, event })?)
 }
 
-pub(crate) fn ask_core(alloc: Global, core: &mut Core, asked: &str) -> Result<Reply, Fail> {
+fn ask_core(alloc: Global, core: &mut Core, asked: &str) -> Result<Reply, Fail> {
     let moment = moment(asked)?;
     if asked.contains(" quiet") {
         return Ok(take_quiet(core, moment, asked.ends_with(" quiet"))?);
     }
     let event = event(alloc, asked)?;
     Ok(reply_to(alloc, take_turn(core, event, moment)?)?)
+}
+
+// Both functions are small, since a proof has what is live at each `?` again.
+fn machine_says(
+    rt: &impl Abort,
+    alloc: Global,
+    machine: &mut Machine,
+    asked: &str,
+    want: &str,
+) -> Result<(), Fail>
+    requires { machine.old.entries < 2 ^ 53 }
+    ensures { OnOk result (machine.new.entries ≡ machine.old.entries + 1) }
+{
+    let found = said(alloc, ask_machine(alloc, machine, asked)?)?;
+    assert_eq!(rt; found.as_str(), want, "the machine at {asked}");
+    Ok(())
+}
+
+pub(crate) fn core_says(
+    rt: &impl Abort,
+    alloc: Global,
+    core: &mut Core,
+    asked: &str,
+    want: &str,
+) -> Result<(), Fail> {
+    let found = said(alloc, ask_core(alloc, core, asked)?)?;
+    assert_eq!(rt; found.as_str(), want, "the core at {asked}");
+    Ok(())
 }
 
 // Each line begins with milliseconds and ends with the reply that it has to have of both.
@@ -115,10 +143,8 @@ fn play(
         let (asked, want) = line.split_once(" -> ").ok_or("a reply")?;
         assert!(rt; steps < 100);
         steps += 1;
-        let found = said(alloc, ask_machine(alloc, machine, asked)?)?;
-        assert_eq!(rt; found.as_str(), want, "the machine at {asked}");
-        let found = said(alloc, ask_core(alloc, core, asked)?)?;
-        assert_eq!(rt; found.as_str(), want, "the core at {asked}");
+        machine_says(rt, alloc, machine, asked, want)?;
+        core_says(rt, alloc, core, asked, want)?;
     }
     Ok(())
 }

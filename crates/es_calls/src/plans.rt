@@ -3,7 +3,7 @@ ghost use Rattle.std.specs.Prelude.{IfOk};
 ghost use Rattle.es_core.specs.Plans.{CanRun};
 
 use crate::events::{event, moment};
-use crate::histories::{ask_core, run, take_turn};
+use crate::histories::{core_says, run, take_turn};
 use crate::replies::said;
 use es_core::{Core, Plan, Turned};
 use list_machine::Limits;
@@ -31,8 +31,7 @@ const BEHIND: &str = "0 remove logs c -> deleted 3
 fn goes_on(rt: &impl Abort, alloc: Global, core: &mut Core, history: &str) -> Result<(), Fail> {
     for line in history.lines() {
         let (asked, want) = line.split_once(" -> ").ok_or("a reply")?;
-        let found = said(alloc, ask_core(alloc, core, asked)?)?;
-        assert_eq!(rt; found.as_str(), want, "{asked}");
+        core_says(rt, alloc, core, asked, want)?;
     }
     Ok(())
 }
