@@ -5,6 +5,7 @@ use Rattle.std.proofs.lemmas.Bool.{and_parts, cases_Bool, cases_eq, eq-eqb, leb-
 use Rattle.std.proofs.lemmas.List.{append-nil}
 use Rattle.std.proofs.lemmas.Grind.{common_steps}
 use Rattle.std.proofs.lemmas.Nat.{be_bytes_8, from_be_bytes-to_be_bytes_8}
+use Rattle.es_types.specs.declared.limits.TheConstants.{MOST_ENTRIES}
 use Rattle.base64.specs.GeneralPurpose.{IsBytes, decode_of, encode_of}
 use Rattle.base64.specs.Engines.{url_safe_no_pad}
 use Rattle.base64.specs.declared.decode.DecodeError.{DecodeError}
@@ -13,7 +14,7 @@ use Rattle.base64.proofs.RoundTrip.{length-encode_symbols}
 use Rattle.ctx_ids.specs.declared.id.ContextId.{ContextId}
 use Rattle.ctx_ids.specs.declared.id.Kind.{Kind}
 use Rattle.ctx_ids.specs.declared.id.Kind.TheVariants.{Pit, Scroll, Task}
-use Rattle.ctx_ids.specs.Ids.{IsId, id_bytes, id_in, id_of, id_read, id_with, kind_of, last_number, letter_of, text_of}
+use Rattle.ctx_ids.specs.Ids.{IsId, id_bytes, id_in, id_of, id_read, id_with, kind_of, letter_of, text_of}
 
 -- a list of bytes, from its head
 IsBytes-cons : (x : ℕ) (xs : List ℕ) → x < 256 → IsBytes xs → IsBytes (x ∷ xs)
@@ -100,11 +101,11 @@ number_if (Some id) = id.number
 -- an id that is made has the kind and the number that were given, and can be
 id_with_is : (kind : Option Kind) (number : ℕ) (id : ContextId) → id_with kind number ≡ Some id → (kind ≡ Some id.kind) × (number ≡ id.number) × IsId id
 id_with_is None number id is = cc is
-id_with_is (Some kind) number id is = elim (cases_Bool (nat_le 1 number && nat_le number last_number)) [
+id_with_is (Some kind) number id is = elim (cases_Bool (nat_le 1 number && nat_le number MOST_ENTRIES)) [
   | inl held ↦
-      let within = and_parts (nat_le 1 number) (nat_le number last_number) held in
+      let within = and_parts (nat_le 1 number) (nat_le number MOST_ENTRIES) held in
       let some : 1 ≤ number = leb-true 1 number within.0 in
-      let most : number ≤ last_number = leb-true number last_number within.1 in
+      let most : number ≤ MOST_ENTRIES = leb-true number MOST_ENTRIES within.1 in
       let made = rw held at is in
       let kinds = ap (λ (it : Option ContextId). kind_if it) made in
       let numbers = ap (λ (it : Option ContextId). number_if it) made in

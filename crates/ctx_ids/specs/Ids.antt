@@ -2,6 +2,7 @@
 -- and the number in eight bytes, the greatest first.
 use Rattle.std.specs.Prelude.{ℕ, ◌≤◌, ◌==◌, ◌&&◌, nat_le, if◌then◌else◌, List, ◌∷◌, length, drop, slice_index, Option, Some, None, Result, Ok, Err}
 use Rattle.std.specs.Int.{w64, from_be_bytes, to_be_bytes}
+use Rattle.es_types.specs.declared.limits.TheConstants.{MOST_ENTRIES}
 use Rattle.base64.specs.GeneralPurpose.{decode_of, encode_of}
 use Rattle.base64.specs.Engines.{url_safe_no_pad}
 use Rattle.base64.specs.declared.decode.DecodeError.{DecodeError}
@@ -9,14 +10,10 @@ use Rattle.ctx_ids.specs.declared.id.ContextId.{ContextId}
 use Rattle.ctx_ids.specs.declared.id.Kind.{Kind}
 use Rattle.ctx_ids.specs.declared.id.Kind.TheVariants.{Pit, Scroll, Task}
 
--- the greatest number that a context has, 2^53
-abbrev pub last_number : ℕ
-last_number = 9007199254740992
-
 -- an id that there can be
 pub record IsId (id : ContextId) : Type 0 where
   pub some : 1 ≤ id.number
-  pub most : id.number ≤ last_number
+  pub most : id.number ≤ MOST_ENTRIES
 
 -- `P`, `S` and `A`
 abbrev pub letter_of : Kind → ℕ
@@ -41,7 +38,7 @@ text_of id = encode_of url_safe_no_pad (id_bytes id)
 abbrev pub id_with : Option Kind → ℕ → Option ContextId
 id_with None number = None
 id_with (Some kind) number =
-    if nat_le 1 number && nat_le number last_number then Some (record { kind = kind; number = number }) else None
+    if nat_le 1 number && nat_le number MOST_ENTRIES then Some (record { kind = kind; number = number }) else None
 
 -- the id that these bytes are
 abbrev pub id_in : List ℕ → Option ContextId

@@ -2,10 +2,10 @@ ghost use Rattle.std.specs.Prelude.{◌≡◌, ◌≢◌, ◌<◌, ◌⊎◌, If
 ghost use Rattle.std.specs.Result.{result_ok};
 ghost use Rattle.base64.specs.GeneralPurpose.{IsBytes};
 ghost use Rattle.ctx_ids.specs.declared.id.ContextId.{ContextId};
-ghost use Rattle.ctx_ids.specs.Ids.{IsId, id_in, id_of, kind_of, last_number, letter_of, text_of};
+ghost use Rattle.ctx_ids.specs.Ids.{IsId, id_in, id_of, kind_of, letter_of, text_of};
 
 use base64::engine::general_purpose::URL_SAFE_NO_PAD;
-use es_types::{Copied, NoMemory, Text};
+use es_types::{Copied, MOST_ENTRIES, NoMemory, Text};
 use std::alloc::Global;
 
 /// A text that is no context's id.
@@ -31,10 +31,10 @@ pub struct ContextId {
 impl ContextId {
     /// The id of that number, where there can be one: from 1 to 2^53.
     pub fn make(kind: Kind, number: u64) -> Option<ContextId>
-        ensures { MatchOption result ((number ≡ 0) ⊎ (last_number < number))
+        ensures { MatchOption result ((number ≡ 0) ⊎ (MOST_ENTRIES < number))
             (λ id. IsId id × (id.kind ≡ kind) × (id.number ≡ number)) }
     {
-        if number == 0 || number > 9007199254740992 {
+        if number == 0 || number > MOST_ENTRIES {
             return None;
         }
         Some(ContextId { kind, number })

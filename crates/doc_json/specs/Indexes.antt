@@ -4,6 +4,7 @@ use Rattle.std.specs.Char.{is_ascii_digit}
 use Rattle.std.specs.List.{list_all}
 use Rattle.std.specs.Option.{option_map_or}
 use Rattle.std.specs.Str.Parse.{digits_value}
+use Rattle.es_types.specs.declared.limits.TheConstants.{INDEX_SHARDS, MAPPING_FIELDS}
 use Rattle.serde_json.specs.Data.{Data, Members, no_members, member}
 use Rattle.serde_json.specs.Find.{as_bool, as_number, as_object, as_str, as_u64, get}
 use Rattle.es_types.specs.Name.{is_field_name}
@@ -140,7 +141,7 @@ named_field name value = if is_field_name name then Some (field_of name value) e
 -- the mapping of at most 1,000 properties with such names
 abbrev pub mapping_of : Members → Option (List Field)
 mapping_of properties =
-    if nat_le (count_of properties) 1000 && are_named (fields_of properties) then Some (fields_of properties) else None
+    if nat_le (count_of properties) MAPPING_FIELDS && are_named (fields_of properties) then Some (fields_of properties) else None
 
 -- an index has 1 to 1,024 shards
 abbrev pub mapped : ℕ → Option (List Field) → Result IndexSpec BodyFault
@@ -149,7 +150,7 @@ mapped shards (Some mapping) = Ok (record { shards = shards; mapping = mapping }
 
 unfoldable pub limited : ℕ → Members → Result IndexSpec BodyFault
 limited shards properties =
-    if nat_le 1 shards && nat_le shards 1024 then mapped shards (mapping_of properties) else Err (Limit Shards)
+    if nat_le 1 shards && nat_le shards INDEX_SHARDS then mapped shards (mapping_of properties) else Err (Limit Shards)
 
 -- ---- the whole
 

@@ -7,15 +7,12 @@ ghost use Rattle.doc_json.specs.Indexes.{are_fields, are_mappings, are_named, ar
 
 use crate::fault::BodyFault;
 use crate::value::{is_form, only_member, read_data};
-use es_types::{Fail, Field, FieldKind, FieldName, Items, LimitName, Mapping, NoMemory, Text};
+use es_types::{
+    Fail, Field, FieldKind, FieldName, INDEX_SHARDS, Items, LimitName, MAPPING_FIELDS, Mapping,
+    NoMemory, Text,
+};
 use serde_json::{Map, Value};
 use std::alloc::Global;
-
-/// The most shards of an index.
-const SHARD_LIMIT: u32 = 1024;
-
-/// The most fields of a mapping.
-const FIELD_LIMIT: usize = 1000;
 
 /// What a new index shall be: with how many shards, and which fields.
 #[derive(Drop)]
@@ -68,7 +65,7 @@ fn limited(
 ) -> Result<IndexSpec, Fail<BodyFault>>
     ensures { Answers result (limited shards (members_view properties.now.entries)) }
 {
-    if shards < 1 || shards > SHARD_LIMIT {
+    if shards < 1 || shards > INDEX_SHARDS {
         return Err(Fail::Is(BodyFault::Limit(LimitName::Shards)));
     }
     match mapping_of(alloc, properties)? {
@@ -334,7 +331,7 @@ fn kind_of(value: &Value) -> FieldKind
 fn mapping_of(alloc: Global, members: &Map<String, Value>) -> Result<Option<Mapping>, NoMemory>
     ensures { IfOk result (λ mapping. mapping ≡ mapping_of (members_view members.now.entries)) }
 {
-    if members.len() > FIELD_LIMIT {
+    if members.len() > MAPPING_FIELDS {
         return Ok(None);
     }
     let Some(fields) = fields_of(alloc, members)? else {

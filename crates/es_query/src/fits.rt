@@ -1,6 +1,6 @@
 ghost use Rattle.std.specs.Prelude.{◌≡◌, ◌&&◌, MatchResult, IsTrue, IsFalse};
 ghost use Rattle.std.specs.List.{list_all};
-ghost use Rattle.es_query.specs.Fits.{fits, is_of};
+ghost use Rattle.es_query.specs.Fits.{fits, suits};
 
 use crate::{Bool, Edge, Query};
 use es_types::{FieldKind, Mapping, Value};
@@ -29,7 +29,7 @@ fn fits(query: &Query, mapping: &Mapping) -> bool
     match query {
         Query::All => true,
         Query::Nothing => true,
-        Query::Term { field, value } => is_of(mapping.kind_of(field.as_str()), value),
+        Query::Term { field, value } => suits(mapping.kind_of(field.as_str()), value),
         Query::Range { field, edges } => {
             are_of(mapping.kind_of(field.as_str()), edges.as_slice())
         }
@@ -38,8 +38,8 @@ fn fits(query: &Query, mapping: &Mapping) -> bool
 }
 
 // Whether a value is of that kind. A field that isn't mapped takes each.
-fn is_of(kind: Option<FieldKind>, value: &Value) -> bool
-    ensures { result ≡ is_of kind value.now }
+fn suits(kind: Option<FieldKind>, value: &Value) -> bool
+    ensures { result ≡ suits kind value.now }
 {
     match kind {
         None => true,
@@ -49,9 +49,9 @@ fn is_of(kind: Option<FieldKind>, value: &Value) -> bool
 
 // Whether the value of each edge is of that kind.
 fn are_of(kind: Option<FieldKind>, edges: &[Edge]) -> bool
-    ensures { result ≡ list_all (λ edge. is_of kind edge.value) edges.now }
+    ensures { result ≡ list_all (λ edge. suits kind edge.value) edges.now }
 {
-    edges.iter().all(|edge| is_of(kind, &edge.value))
+    edges.iter().all(|edge| suits(kind, &edge.value))
 }
 
 // Whether each query in the clauses of a bool query fits.

@@ -24,15 +24,15 @@ abbrev pub sort_fits : List Field → SortSpec → Bool
 sort_fits mapping sort = list_all (λ key. is_mapped mapping key.by) sort.keys
 
 -- a missing value, or one of that kind
-abbrev pub is_of : Option FieldKind → Value → Bool
-is_of None value = false
-is_of (Some kind) Missing = true
-is_of (Some kind) (Key text) = is_kind kind (Key text)
-is_of (Some kind) (Long number) = is_kind kind (Long number)
+abbrev pub is_of_or_missing : Option FieldKind → Value → Bool
+is_of_or_missing None value = false
+is_of_or_missing (Some kind) Missing = true
+is_of_or_missing (Some kind) (Key text) = is_kind kind (Key text)
+is_of_or_missing (Some kind) (Long number) = is_kind kind (Long number)
 
 -- whether a value is of a key's kind, as those of rows are; a place is a number, and never missing
 abbrev pub takes : List Field → SortBy → Value → Bool
-takes mapping (by.Field name) value = is_of (kind_in mapping name) value
+takes mapping (by.Field name) value = is_of_or_missing (kind_in mapping name) value
 takes mapping by.Place value = is_kind kind.Long value
 
 -- one value for each key

@@ -1,5 +1,5 @@
 ghost use Rattle.std.specs.Prelude.{◌≡◌, MatchResult, IsTrue, IsFalse};
-ghost use Rattle.es_sort.specs.Fits.{after_fits, is_of, take_each, takes};
+ghost use Rattle.es_sort.specs.Fits.{after_fits, is_of_or_missing, take_each, takes};
 ghost use Rattle.es_sort.specs.Keys.{with_place};
 
 use crate::key::shows_implied;
@@ -55,14 +55,14 @@ fn takes(mapping: &Mapping, by: &SortBy, value: &Value) -> bool
     ensures { result ≡ takes mapping.now by.now value.now }
 {
     match by {
-        SortBy::Field(name) => is_of(mapping.kind_of(name.as_str()), value),
+        SortBy::Field(name) => is_of_or_missing(mapping.kind_of(name.as_str()), value),
         SortBy::Place => value.is_of(FieldKind::Long),
     }
 }
 
 // Whether it is a value of that kind, or a missing one. A field that isn't mapped takes none.
-fn is_of(kind: Option<FieldKind>, value: &Value) -> bool
-    ensures { result ≡ is_of kind value.now }
+fn is_of_or_missing(kind: Option<FieldKind>, value: &Value) -> bool
+    ensures { result ≡ is_of_or_missing kind value.now }
 {
     match (kind, value) {
         (None, _) => false,

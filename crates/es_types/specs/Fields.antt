@@ -2,6 +2,7 @@
 use Rattle.std.specs.Prelude.{Bool, true, ℕ, ◌+◌, ◌&&◌, nat_le, bytes_eq, if◌then◌else◌, List, [], ◌∷◌, length, Result, Ok, Err}
 use Rattle.std.specs.Cmp.Lexicographic.{slice_cmp}
 use Rattle.std.specs.Ordering.{nat_cmp, is_lt}
+use Rattle.es_types.specs.declared.limits.TheConstants.{MAPPING_FIELDS}
 use Rattle.es_types.specs.declared.mapping.Field.{Field}
 use Rattle.es_types.specs.declared.mapping.FieldKind.{FieldKind}
 use Rattle.es_types.specs.declared.mapping.FieldKind.TheVariants as kind
@@ -22,7 +23,7 @@ names_rise (field ∷ next ∷ fields) = is_lt (slice_cmp nat_cmp field.name nex
 
 -- at most 1,000 fields of that kind
 abbrev pub is_mapping : List Field → Bool
-is_mapping fields = nat_le (length fields) 1000 && names_rise fields
+is_mapping fields = nat_le (length fields) MAPPING_FIELDS && names_rise fields
 
 -- the longest text of a keyword, in bytes
 abbrev pub longest_key : ℕ

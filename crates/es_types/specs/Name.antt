@@ -25,11 +25,3 @@ abbrev pub is_field_name : List ℕ → Bool
 is_field_name text =
     nat_lt 0 (length text) && (nat_le (length text) 255
     && (not (slice_index text 0 == 95) && list_all (λ b. not (b == 46)) text))
-
--- the last moment, in milliseconds
-abbrev pub last_moment : ℕ
-last_moment = 9007199254740992
-
--- the longest time that anything is kept, ten days in milliseconds
-abbrev pub longest_keep : ℕ
-longest_keep = 864000000

@@ -3,7 +3,7 @@ use Rattle.std.specs.Prelude.{ℕ, ◌*◌, nat_le, nat_lt, bytes_eq, codes, if�
 use Rattle.std.specs.Char.{is_ascii_digit}
 use Rattle.std.specs.List.{prefix_len}
 use Rattle.std.specs.Str.Parse.{digits_value}
-use Rattle.es_types.specs.Name.{longest_keep}
+use Rattle.es_types.specs.declared.limits.TheConstants.{LONGEST_KEEP}
 
 -- the milliseconds of a unit
 abbrev pub unit_millis : List ℕ → Option ℕ
@@ -17,7 +17,7 @@ unit_millis unit =
 -- so many of a unit, where they are at most the longest time
 abbrev pub keep_with : ℕ → Option ℕ → Option ℕ
 keep_with number None = None
-keep_with number (Some unit) = if nat_le (number * unit) longest_keep then Some (number * unit) else None
+keep_with number (Some unit) = if nat_le (number * unit) LONGEST_KEEP then Some (number * unit) else None
 
 -- how many digits a text begins with
 abbrev pub digits_in : List ℕ → ℕ

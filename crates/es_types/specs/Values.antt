@@ -1,5 +1,5 @@
 -- The values that a row has, by the names of the fields.
-use Rattle.std.specs.Prelude.{Bool, true, false, ℕ, bytes_eq, if◌then◌else◌, List, [], ◌∷◌, Option, Some, None}
+use Rattle.std.specs.Prelude.{◌≡◌, ◌⊎◌, IsTrue, Bool, true, false, ℕ, bytes_eq, if◌then◌else◌, List, [], ◌∷◌, Option, Some, None}
 use Rattle.es_types.specs.declared.mapping.Field.{Field}
 use Rattle.es_types.specs.declared.mapping.FieldKind.{FieldKind}
 use Rattle.es_types.specs.declared.mapping.FieldKind.TheVariants as kind
@@ -14,6 +14,17 @@ is_kind kind.Key Missing = false
 is_kind kind.Long (Key text) = false
 is_kind kind.Long (Long number) = true
 is_kind kind.Long Missing = false
+
+-- a value of a field of that kind, or that there is none
+abbrev pub IsOfKind : FieldKind → Value → Type 0
+IsOfKind kind value = (value ≡ Missing) ⊎ IsTrue (is_kind kind value)
+
+-- one value for each field of the mapping, in its order: of the field's kind, or missing
+abbrev pub AreValuesOf : List Field → List Value → Type 0
+AreValuesOf [] [] = Unit {0}
+AreValuesOf [] (value ∷ values) = ⊥
+AreValuesOf (field ∷ fields) [] = ⊥
+AreValuesOf (field ∷ fields) (value ∷ values) = IsOfKind field.kind value × AreValuesOf fields values
 
 -- the kind of a field, where it is mapped
 abbrev pub kind_in : List Field → List ℕ → Option FieldKind

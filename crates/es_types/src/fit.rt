@@ -1,8 +1,10 @@
 ghost use Rattle.std.specs.Prelude.{◌≡◌, ◌≤◌, length, map, List, IfOk, IsTrue};
+ghost use Rattle.es_types.specs.declared.limits.TheConstants.{MAPPING_FIELDS};
 ghost use Rattle.es_types.specs.declared.doc.Member.{Member};
 ghost use Rattle.es_types.specs.Fields.{fit, value_of};
 ghost use Rattle.es_types.specs.Fail.{Answers};
 ghost use Rattle.es_types.specs.Fit.{values_named};
+ghost use Rattle.es_types.specs.Values.{AreValuesOf};
 
 use crate::{
     Copied, Doc, DocValue, Fail, Field, FieldKind, Items, Mapping, Member, NoMemory, Value,
@@ -34,7 +36,8 @@ pub struct DocFault {
 ///
 /// Takes a search by halves among the fields for each member, and one step for each field.
 pub fn fit_doc(alloc: Global, mapping: &Mapping, doc: &Doc) -> Result<Items<Value>, Fail<DocFault>>
-    ensures { Answers result (fit mapping.now doc.now.members) }
+    ensures fits { Answers result (fit mapping.now doc.now.members) }
+    ensures kinds { IfOk result (AreValuesOf mapping.now) }
 {
     let null = DocValue::Null;
     let given = given_values(alloc, &null, mapping, doc.members.as_slice())?;
@@ -68,7 +71,7 @@ fn values_of(
     fields: &[Field],
     given: &[&DocValue],
 ) -> Result<Items<Value>, Fail<DocFault>>
-    requires few { length fields.now ≤ 1000 }
+    requires few { length fields.now ≤ MAPPING_FIELDS }
     requires one_each { length given.now ≡ length fields.now }
     ensures { (members : List Member) → map (λ value. value.now) given.now ≡ values_named fields.now members → Answers result (fit fields.now members) }
 {

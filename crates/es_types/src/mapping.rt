@@ -4,12 +4,9 @@ ghost use Rattle.std.specs.List.{position};
 ghost use Rattle.std.specs.Ordering.{nat_cmp};
 ghost use Rattle.es_types.specs.Fields.{is_mapping, names_rise};
 
-use crate::{Copied, FieldName, Items, NoMemory};
+use crate::{Copied, FieldName, Items, MAPPING_FIELDS, NoMemory};
 use std::alloc::Global;
 use std::marker::Model;
-
-/// As many fields as a mapping may have.
-const FIELD_LIMIT: usize = 1000;
 
 /// What the values of a field are: texts that are compared as a whole, or whole numbers.
 #[derive(Clone, Copy)]
@@ -86,7 +83,7 @@ impl Mapping {
 fn are_mapping(fields: &[Field]) -> bool
     ensures { result ≡ is_mapping fields.now }
 {
-    fields.len() <= FIELD_LIMIT && do_names_rise(fields)
+    fields.len() <= MAPPING_FIELDS && do_names_rise(fields)
 }
 
 fn do_names_rise(fields: &[Field]) -> bool

@@ -1,10 +1,9 @@
 ghost use Rattle.std.specs.Prelude.{◌≡◌, ◌<◌, ◌≤◌, ◌↔◌, ◌+◌, length, max, min, take, IsNone, IfSome};
 ghost use Rattle.std.specs.Result.{result_ok};
 ghost use Rattle.std.specs.Str.Parse.{digits_value};
-ghost use Rattle.es_types.specs.Name.{last_moment, longest_keep};
 ghost use Rattle.es_types.specs.Times.{digits_in, keep_of, unit_millis};
 
-use crate::{Copied, NoMemory};
+use crate::{Copied, LAST_MOMENT, LONGEST_KEEP, NoMemory};
 use std::alloc::Global;
 use std::marker::Model;
 
@@ -14,13 +13,13 @@ pub struct Moment(u64);
 
 impl Model for Moment {
     ghost use Rattle.std.specs.Prelude.{ℕ, ◌≤◌};
-    ghost use Rattle.es_types.specs.Name.{last_moment};
+    ghost use Rattle.es_types.specs.declared.limits.TheConstants.{LAST_MOMENT};
 
     ghost Value = { ℕ };
 
     ghost view = { λ m. m.0 };
 
-    ghost invariant = { λ m. m.0 ≤ last_moment };
+    ghost invariant = { λ m. m.0 ≤ LAST_MOMENT };
 
     ghost inverse = { λ n. record { 0 = n } };
 }
@@ -34,10 +33,10 @@ impl Moment {
     }
 
     pub fn make(millis: u64) -> Option<Moment>
-        ensures none { IsNone result ↔ (last_moment < millis) }
+        ensures none { IsNone result ↔ (LAST_MOMENT < millis) }
         ensures value { IfSome result (λ m. m ≡ millis) }
     {
-        if millis <= 9007199254740992 {
+        if millis <= LAST_MOMENT {
             Some(Moment(millis))
         } else {
             None
@@ -46,7 +45,7 @@ impl Moment {
 
     pub fn millis(&self) -> u64
         ensures value { result ≡ self.now }
-        ensures bound { result ≤ last_moment }
+        ensures bound { result ≤ LAST_MOMENT }
     {
         self.0
     }
@@ -63,21 +62,19 @@ impl Moment {
 #[derive(Drop)]
 pub struct BadTime;
 
-const LONGEST: u64 = 864000000;
-
 /// How long something is kept, in milliseconds: at most ten days.
 #[derive(Clone, Copy)]
 pub struct KeepAlive(u64);
 
 impl Model for KeepAlive {
     ghost use Rattle.std.specs.Prelude.{ℕ, ◌≤◌};
-    ghost use Rattle.es_types.specs.Name.{longest_keep};
+    ghost use Rattle.es_types.specs.declared.limits.TheConstants.{LONGEST_KEEP};
 
     ghost Value = { ℕ };
 
     ghost view = { λ k. k.0 };
 
-    ghost invariant = { λ k. k.0 ≤ longest_keep };
+    ghost invariant = { λ k. k.0 ≤ LONGEST_KEEP };
 
     ghost inverse = { λ n. record { 0 = n } };
 }
@@ -95,7 +92,7 @@ impl KeepAlive {
 
     pub fn millis(&self) -> u64
         ensures value { result ≡ self.now }
-        ensures bound { result ≤ longest_keep }
+        ensures bound { result ≤ LONGEST_KEEP }
     {
         self.0
     }
@@ -104,7 +101,7 @@ impl KeepAlive {
 #[tactic(auto, unfolding(crate::specs::Times::keep_of))]
 fn keep_of(text: &[u8]) -> Option<u64>
     ensures is { result ≡ keep_of text.now }
-    ensures bound { IfSome result (λ millis. millis ≤ longest_keep) }
+    ensures bound { IfSome result (λ millis. millis ≤ LONGEST_KEEP) }
 {
     if text == b"0".as_slice() {
         return Some(0);
@@ -114,7 +111,7 @@ fn keep_of(text: &[u8]) -> Option<u64>
         return None;
     }
     let unit = unit_millis(&text[count..])?;
-    if number * unit <= LONGEST {
+    if number * unit <= LONGEST_KEEP {
         Some(number * unit)
     } else {
         None
@@ -123,7 +120,7 @@ fn keep_of(text: &[u8]) -> Option<u64>
 
 // The number that the digits at the front write, or one above the longest time where it is greater than that; and how many they are.
 fn digits_in(text: &[u8]) -> (u64, usize)
-    ensures number { result.0 ≡ min (digits_value 10 (take (digits_in text.now) text.now)) (longest_keep + 1) }
+    ensures number { result.0 ≡ min (digits_value 10 (take (digits_in text.now) text.now)) (LONGEST_KEEP + 1) }
     ensures count { result.1 ≡ digits_in text.now }
     ensures within { result.1 ≤ length text.now }
 {
@@ -132,7 +129,7 @@ fn digits_in(text: &[u8]) -> (u64, usize)
         if !b.is_ascii_digit() {
             return (number, i);
         }
-        number = (number * 10 + (*b - b'0') as u64).min(LONGEST + 1);
+        number = (number * 10 + (*b - b'0') as u64).min(LONGEST_KEEP + 1);
     }
     (number, text.len())
 }

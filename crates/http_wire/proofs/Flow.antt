@@ -6,7 +6,7 @@ use Rattle.std.proofs.Math.Seq.{take-append-add}
 use Rattle.http_wire.specs.declared.wire.WireEnd.{WireEnd}
 use Rattle.http_wire.specs.declared.wire.WireEnd.TheVariants.{Truncated, NotBuilt, ReadFault, TooMuch, NoMemory}
 use Rattle.http_wire.specs.Requests.{HasNoRequest, IsRefused, IsUnfinished}
-use Rattle.http_wire.specs.Stream.{Held, HasEnded, Wrote, stream_of}
+use Rattle.http_wire.specs.Stream.{Buffered, HasEnded, Wrote, stream_of}
 use Rattle.http_wire.specs.Steps.{Came, CameFrom, EndedOf, IsDry, IsNothing, ReadMore}
 use Rattle.es_outside.specs.Told.{Gives, Takes}
 
@@ -38,7 +38,7 @@ from_trans (Some before) (Some mid) c xs ys p q =
     let same : p.0 ≡ mid = cc in
     (q.0, p.1 ∙ ap (λ (l : List ℕ). xs ++ l) (same ∙ q.1) ∙ sym (append_assoc xs ys q.0), q.2)
 
-pub came_trans : {a b c : Held} {x y z : Option (List ℕ)} → Came a b x y → Came b c y z → Came a c x z
+pub came_trans : {a b c : Buffered} {x y z : Option (List ℕ)} → Came a b x y → Came b c y z → Came a c x z
 came_trans {a = a} {b = b} {c = c} {x = x} {y = y} {z = z} p q =
     record {
       taken = p.taken ++ q.taken;
@@ -48,14 +48,14 @@ came_trans {a = a} {b = b} {c = c} {x = x} {y = y} {z = z} p q =
     }
 
 -- the stream is the same after bytes came
-stream_same : (a b : Held) (taken after : List ℕ) → b.bytes ≡ a.bytes ++ taken → b.room + length taken ≡ a.room
+stream_same : (a b : Buffered) (taken after : List ℕ) → b.bytes ≡ a.bytes ++ taken → b.room + length taken ≡ a.room
     → stream_of b after ≡ stream_of a (taken ++ after)
 stream_same a b taken after e r =
     let sum : length taken + b.room ≡ a.room = omega arith in
     let front : take a.room (taken ++ after) ≡ taken ++ take b.room after = ap (λ n. take n (taken ++ after)) (sym sum) ∙ take-append-add taken after b.room in
     ap (λ (l : List ℕ). l ++ take b.room after) e ∙ append_assoc a.bytes taken (take b.room after) ∙ ap (λ (l : List ℕ). a.bytes ++ l) (sym front)
 
-ended_told : (a b : Held) (taken after : List ℕ) (left : Option (List ℕ)) (end : WireEnd)
+ended_told : (a b : Buffered) (taken after : List ℕ) (left : Option (List ℕ)) (end : WireEnd)
     → b.bytes ≡ a.bytes ++ taken → b.room + length taken ≡ a.room → HasEnded b after left end → HasEnded a (taken ++ after) left end
 ended_told a b taken after left Truncated e r h =
     let all : b.bytes ++ after ≡ a.bytes ++ (taken ++ after) = ap (λ (l : List ℕ). l ++ after) e ∙ append_assoc a.bytes taken after in
@@ -74,14 +74,14 @@ ended_told a b taken after left ReadFault e r h =
 ended_told a b taken after left NoMemory e r h = tt
 
 -- an end has the same cause, as seen from before bytes came
-pub ended_after : (a b : Held) (x y z : Option (List ℕ)) (end : WireEnd) → Came a b x y → EndedOf b y z end → EndedOf a x z end
+pub ended_after : (a b : Buffered) (x y z : Option (List ℕ)) (end : WireEnd) → Came a b x y → EndedOf b y z end → EndedOf a x z end
 ended_after a b None y z end p q = tt
 ended_after a b (Some before) y z end p q =
     let there : HasEnded b p.told.0 z end = subst (λ (l : Option (List ℕ)). EndedOf b l z end) p.told.2 q in
     subst (λ (l : List ℕ). HasEnded a l z end) (sym p.told.1) (ended_told a b p.taken p.told.0 z end p.bytes p.room there)
 
 -- a call that ends at once
-pub ended_by_fault : (held : Held) (before left : Option (List ℕ)) → left ≡ before → HasNoRequest held.bytes → EndedOf held before left ReadFault
+pub ended_by_fault : (held : Buffered) (before left : Option (List ℕ)) → left ≡ before → HasNoRequest held.bytes → EndedOf held before left ReadFault
 ended_by_fault held None left e h = tt
 ended_by_fault held (Some before) left e h = (
   [],
@@ -91,7 +91,7 @@ ended_by_fault held (Some before) left e h = (
   subst HasNoRequest (sym (append-nil held.bytes)) h,
 )
 
-pub ended_by_much : (held : Held) (before left : Option (List ℕ)) (room : List ℕ) (count : ℕ) → held.room ≡ 0 → 0 < count
+pub ended_by_much : (held : Buffered) (before left : Option (List ℕ)) (room : List ℕ) (count : ℕ) → held.room ≡ 0 → 0 < count
     → Gives before left room count → HasNoRequest held.bytes → EndedOf held before left TooMuch
 ended_by_much held None left room count e some gives h = tt
 ended_by_much held (Some before) left room count e some gives h =
@@ -99,19 +99,19 @@ ended_by_much held (Some before) left room count e some gives h =
     let same : stream_of held before ≡ held.bytes = ap (λ (l : List ℕ). held.bytes ++ l) none ∙ append-nil held.bytes in
     (omega (arith, e, some, gives.enough), subst HasNoRequest (sym same) h)
 
-pub ended_by_end : (held : Held) (before left : Option (List ℕ)) → IsDry before → held.bytes ≢ [] → IsUnfinished held.bytes → EndedOf held before left Truncated
+pub ended_by_end : (held : Buffered) (before left : Option (List ℕ)) → IsDry before → held.bytes ≢ [] → IsUnfinished held.bytes → EndedOf held before left Truncated
 ended_by_end held None left dry some h = tt
 ended_by_end held (Some before) left dry some h =
     let same : held.bytes ++ before ≡ held.bytes = ap (λ (l : List ℕ). held.bytes ++ l) dry ∙ append-nil held.bytes in
     let none : length before ≡ 0 = ap length dry in
     (omega (arith, none), (λ z. some (sym same ∙ z)), subst IsUnfinished (sym same) h)
 
-pub ended_refused : (held : Held) (before left : Option (List ℕ)) → ((more : List ℕ) → IsRefused (held.bytes ++ more)) → EndedOf held before left NotBuilt
+pub ended_refused : (held : Buffered) (before left : Option (List ℕ)) → ((more : List ℕ) → IsRefused (held.bytes ++ more)) → EndedOf held before left NotBuilt
 ended_refused held None left h = tt
 ended_refused held (Some before) left h = h (take held.room before)
 
 -- nothing was held or left
-pub nothing : (old now : Held) (x y : Option (List ℕ)) → Came old now x y → IsDry y → now.bytes ≡ [] → IsNothing old x
+pub nothing : (old now : Buffered) (x y : Option (List ℕ)) → Came old now x y → IsDry y → now.bytes ≡ [] → IsNothing old x
 nothing old now None y c dry none = tt
 nothing old now (Some before) y c dry none =
     let both : old.bytes ++ c.taken ≡ [] = sym c.bytes ∙ none in
@@ -155,7 +155,7 @@ dry_from None left room count z g = tt
 dry_from (Some before) left room count z g = g.end z
 
 -- what a read of that many bytes gives
-pub read_ok : (old new : Held) (before left : Option (List ℕ)) (room : List ℕ) (count : ℕ) → new.bytes ≡ old.bytes ++ take count room
+pub read_ok : (old new : Buffered) (before left : Option (List ℕ)) (room : List ℕ) (count : ℕ) → new.bytes ≡ old.bytes ++ take count room
     → new.room + count ≡ old.room → count ≤ length room → Gives before left room count → ReadMore old new before left (Ok (ltb 0 count))
 read_ok old new before left room count bytes sum within gives =
     elim (ltb 0 count) as (λ v. ltb 0 count ≡ v → ReadMore old new before left (Ok v)) [

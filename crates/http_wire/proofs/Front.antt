@@ -3,6 +3,7 @@ use Rattle.std.proofs.Common.{◌≡◌, ℕ, ◌+◌, ◌-◌, ◌<◌, ◌≤�
 use Rattle.std.specs.Prelude.{IfSome, option_map, slice_range}
 use Rattle.std.proofs.lemmas.List.{append_assoc, length-append, length-take, length-take-le, length-drop, take_all, take-take, take-append-le, take-append-drop}
 use Rattle.std.proofs.lemmas.Slice.{between_is}
+use Rattle.es_types.specs.declared.limits.TheConstants.{HEAD_BYTES}
 use Rattle.httparse.specs.declared.spans.Span.{Span}
 use Rattle.httparse.specs.Grammar.{is_token_byte}
 use Rattle.httparse.specs.Grammar as grammar
@@ -13,52 +14,52 @@ use Rattle.http_wire.specs.declared.request.Request.{Request}
 use Rattle.http_wire.specs.declared.wire.WireEnd.{WireEnd}
 use Rattle.http_wire.specs.declared.wire.WireEnd.TheVariants.{NoMemory}
 use Rattle.http_wire.specs.Heads.{Head, IsHead, head_len}
-use Rattle.http_wire.specs.Requests.{Begins, BeginsWithHead, IsRefused, IsUnfinished, head_limit, request_of}
+use Rattle.http_wire.specs.Requests.{Begins, BeginsWithHead, IsRefused, IsUnfinished, request_of}
 use Rattle.http_wire.specs.Parts.{IsParsed, IsParsedWithin, request_at}
 use Rattle.http_wire.specs.Steps.{Came, EndedOf, IsShort}
-use Rattle.http_wire.specs.Stream.{Held, NextOf}
+use Rattle.http_wire.specs.Stream.{Buffered, NextOf}
 use Rattle.http_wire.proofs.Ends.{head_stays, head_there}
 use Rattle.http_wire.proofs.Flow.{take_add}
 
-pub refused_more : (bytes : List ℕ) (n : ℕ) → head_len (take head_limit bytes) ≡ Some n
+pub refused_more : (bytes : List ℕ) (n : ℕ) → head_len (take HEAD_BYTES bytes) ≡ Some n
     → ((head : Head) → IsHead (take n bytes) head → ⊥) → (more : List ℕ) → IsRefused (bytes ++ more)
 refused_more bytes n ends never more =
-    let there = head_there head_limit bytes n ends in
+    let there = head_there HEAD_BYTES bytes n ends in
     let same : take n (bytes ++ more) ≡ take n bytes = take-append-le n bytes more there.1.1 in
-    inr (n, head_stays head_limit bytes more n ends, λ head is. never head (subst (λ (l : List ℕ). IsHead l head) same is))
+    inr (n, head_stays HEAD_BYTES bytes more n ends, λ head is. never head (subst (λ (l : List ℕ). IsHead l head) same is))
 
-pub late_more : (bytes : List ℕ) → head_len (take head_limit bytes) ≡ None → head_limit ≤ length bytes → (more : List ℕ) → IsRefused (bytes ++ more)
+pub late_more : (bytes : List ℕ) → head_len (take HEAD_BYTES bytes) ≡ None → HEAD_BYTES ≤ length bytes → (more : List ℕ) → IsRefused (bytes ++ more)
 late_more bytes none long more =
-    inl (ap head_len (take-append-le head_limit bytes more long) ∙ none, omega (arith, long, length-append bytes more))
+    inl (ap head_len (take-append-le HEAD_BYTES bytes more long) ∙ none, omega (arith, long, length-append bytes more))
 
-pub no_end : (bytes : List ℕ) → head_len (take head_limit bytes) ≡ None → length bytes < head_limit → head_len bytes ≡ None
+pub no_end : (bytes : List ℕ) → head_len (take HEAD_BYTES bytes) ≡ None → length bytes < HEAD_BYTES → head_len bytes ≡ None
 no_end bytes none short =
-    let low : length bytes ≤ head_limit = omega (arith, short) in
-    ap head_len (sym (take_all head_limit bytes low)) ∙ none
+    let low : length bytes ≤ HEAD_BYTES = omega (arith, short) in
+    ap head_len (sym (take_all HEAD_BYTES bytes low)) ∙ none
 
-pub unfinished_head : (bytes : List ℕ) → head_len (take head_limit bytes) ≡ None → length bytes < head_limit → IsUnfinished bytes
+pub unfinished_head : (bytes : List ℕ) → head_len (take HEAD_BYTES bytes) ≡ None → length bytes < HEAD_BYTES → IsUnfinished bytes
 unfinished_head bytes none short = inl (no_end bytes none short, short)
 
-pub begins_more : (bytes : List ℕ) (n : ℕ) (head : Head) → head_len (take head_limit bytes) ≡ Some n → IsHead (take n bytes) head
+pub begins_more : (bytes : List ℕ) (n : ℕ) (head : Head) → head_len (take HEAD_BYTES bytes) ≡ Some n → IsHead (take n bytes) head
     → (more : List ℕ) → BeginsWithHead (bytes ++ more) (take n bytes) head
 begins_more bytes n head ends is more =
-    let there = head_there head_limit bytes n ends in
+    let there = head_there HEAD_BYTES bytes n ends in
     let long : length (take n bytes) ≡ n = length-take-le n bytes there.1.1 in
     record {
-      ends = head_stays head_limit bytes more n ends ∙ ap Some (sym long);
+      ends = head_stays HEAD_BYTES bytes more n ends ∙ ap Some (sym long);
       first = ap (λ k. take k (bytes ++ more)) long ∙ take-append-le n bytes more there.1.1;
       is = is;
     }
 
-pub short_of : (bytes : List ℕ) (n body : ℕ) (head : Head) → head_len (take head_limit bytes) ≡ Some n → IsHead (take n bytes) head
+pub short_of : (bytes : List ℕ) (n body : ℕ) (head : Head) → head_len (take HEAD_BYTES bytes) ≡ Some n → IsHead (take n bytes) head
     → body ≡ head.body → IsShort bytes (n + body)
 short_of bytes n body head ends is e more h =
-    let there = head_there head_limit bytes n ends in
+    let there = head_there HEAD_BYTES bytes n ends in
     let long : length (take n bytes) ≡ n = length-take-le n bytes there.1.1 in
     inr (take n bytes, head, begins_more bytes n head ends is more, omega (arith, h, e, long))
 
 -- the request that stands at the front, whatever follows
-begins_of : (held : List ℕ) (n body : ℕ) (head : Head) (request : Request) → head_len (take head_limit held) ≡ Some n
+begins_of : (held : List ℕ) (n body : ℕ) (head : Head) (request : Request) → head_len (take HEAD_BYTES held) ≡ Some n
     → IsHead (take n held) head → body ≡ head.body → n + body ≤ length held
     → request ≡ request_of head (slice_range held n (n + body)) → (more : List ℕ)
     → Begins (held ++ more) request (drop (n + body) held ++ more)
@@ -88,10 +89,10 @@ span_front bytes more n span within fits =
     ∙ ap (drop span.start) (take-append-le span.end bytes more end ∙ sym (take-take span.end n bytes within.1))
     ∙ sym (between_is (take n bytes) span.start span.end)
 
-module _ (bytes more held : List ℕ) (n : ℕ) (parsed : Parsed) (split : held ≡ bytes ++ more) (ends : head_len (take head_limit bytes) ≡ Some n)
+module _ (bytes more held : List ℕ) (n : ℕ) (parsed : Parsed) (split : held ≡ bytes ++ more) (ends : head_len (take HEAD_BYTES bytes) ≡ Some n)
     (within : IsParsedWithin (length (take n bytes)) parsed) (is : IsParsed (take n bytes) parsed) where
   low : n ≤ length bytes
-  low = (head_there head_limit bytes n ends).1.1
+  low = (head_there HEAD_BYTES bytes n ends).1.1
 
   held_within : IsParsedWithin n parsed
   held_within = subst (λ k. IsParsedWithin k parsed) (length-take-le n bytes low) within
@@ -119,7 +120,7 @@ module _ (bytes more held : List ℕ) (n : ℕ) (parsed : Parsed) (split : held 
   pub begins_at : (request : Request) → n + parsed.body ≤ length held → request ≡ request_at held n parsed → (rest : List ℕ)
       → Begins (held ++ rest) request (drop (n + parsed.body) held ++ rest)
   begins_at request fits r rest =
-      let there : head_len (take head_limit held) ≡ Some n = ap (λ (l : List ℕ). head_len (take head_limit l)) split ∙ head_stays head_limit bytes more n ends in
+      let there : head_len (take HEAD_BYTES held) ≡ Some n = ap (λ (l : List ℕ). head_len (take HEAD_BYTES l)) split ∙ head_stays HEAD_BYTES bytes more n ends in
       let front : take n held ≡ take n bytes = ap (take n) split ∙ take-append-le n bytes more low in
       begins_of held n parsed.body is.head request there (subst (λ (l : List ℕ). IsHead l is.head) (sym front) is.is) is.body fits
       (r ∙ ap (λ (h : Head). request_of h (slice_range held n (n + parsed.body))) same_head) rest
@@ -135,15 +136,15 @@ pub text_of : (bytes : List ℕ) (head : Head) → IsHead bytes head → IsUtf8 
 text_of bytes head is = subst IsUtf8 (sym is.target) is.reads.0.target_text
 
 -- what a call gave
-pub next_err : (old new : Held) (before left : Option (List ℕ)) (end : WireEnd) → EndedOf old before left end → NextOf old new before left (Err end)
+pub next_err : (old new : Buffered) (before left : Option (List ℕ)) (end : WireEnd) → EndedOf old before left end → NextOf old new before left (Err end)
 next_err old new None left end h = tt
 next_err old new (Some before) left end h = h
 
-pub no_memory : (old new : Held) (before left : Option (List ℕ)) → NextOf old new before left (Err NoMemory)
+pub no_memory : (old new : Buffered) (before left : Option (List ℕ)) → NextOf old new before left (Err NoMemory)
 no_memory old new None left = tt
 no_memory old new (Some before) left = tt
 
-pub next_some : (old now new : Held) (before left : Option (List ℕ)) (request : Request) → Came old now before left
+pub next_some : (old now new : Buffered) (before left : Option (List ℕ)) (request : Request) → Came old now before left
     → ((more : List ℕ) → Begins (now.bytes ++ more) request (new.bytes ++ more)) → new.room ≡ now.room
     → NextOf old new before left (Ok (Some request))
 next_some old now new None left request came begins room = tt

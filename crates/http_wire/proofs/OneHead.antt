@@ -1,12 +1,13 @@
 -- Bytes begin with one head and one request only.
 use Rattle.std.proofs.Common.{◌≡◌, ℕ, ◌+◌, ◌≤◌, List, [], ◌∷◌, ◌++◌, length, take, drop, map, filter, Option, Some, None, refl, sym, ap, ◌∙◌, subst, inl, inr, arith}
 use Rattle.std.proofs.lemmas.List.{append_cancel_left, length-append, take_all, take_at, drop_at}
+use Rattle.es_types.specs.declared.limits.TheConstants.{HEAD_BYTES}
 use Rattle.httparse.specs.Grammar.{RequestHead}
 use Rattle.httparse.specs.Spans.{name_and_value}
 use Rattle.httparse.proofs.GrammarLemmas.{request_unique}
 use Rattle.http_wire.specs.declared.request.Request.{Request}
 use Rattle.http_wire.specs.Heads.{Head, IsHead, head_len, is_length, is_moment, length_of, moment_of}
-use Rattle.http_wire.specs.Requests.{Begins, BeginsWithHead, HasNoRequest, IsEnd, IsRefused, Spells, head_limit, request_of}
+use Rattle.http_wire.specs.Requests.{Begins, BeginsWithHead, HasNoRequest, IsEnd, IsRefused, Spells, request_of}
 
 head_same : (a b : Head) → a.method ≡ b.method → a.target ≡ b.target → a.moment ≡ b.moment → a.body ≡ b.body → a ≡ b
 head_same a b m t w n =
@@ -63,10 +64,10 @@ begins_long stream r rest x =
 -- an end at the front rules a request out
 begins_no_end : (stream : List ℕ) (r : Request) (rest : List ℕ) → Begins stream r rest → IsEnd stream → ⊥
 begins_no_end stream r rest x (inl (inl empty)) =
-    none_some (length x.bytes) (sym (ap (λ (l : List ℕ). head_len (take head_limit l)) empty) ∙ x.begins.ends)
+    none_some (length x.bytes) (sym (ap (λ (l : List ℕ). head_len (take HEAD_BYTES l)) empty) ∙ x.begins.ends)
 begins_no_end stream r rest x (inl (inr (inl none))) =
-    let low : length stream ≤ head_limit = omega (arith, none.1) in
-    none_some (length x.bytes) (sym (ap head_len (take_all head_limit stream low) ∙ none.0) ∙ x.begins.ends)
+    let low : length stream ≤ HEAD_BYTES = omega (arith, none.1) in
+    none_some (length x.bytes) (sym (ap head_len (take_all HEAD_BYTES stream low) ∙ none.0) ∙ x.begins.ends)
 begins_no_end stream r rest x (inl (inr (inr more))) =
     let same = begins_unique stream x.bytes more.0 x.head more.1 x.begins more.2 in
     let long : length x.bytes ≡ length more.0 = ap length same.0 in
@@ -91,11 +92,11 @@ spells_one stream (r ∷ requests) (s ∷ others) rest other x p y q =
 pub ends_apart : (bytes : List ℕ) → HasNoRequest bytes → IsRefused bytes → ⊥
 ends_apart bytes (inl empty) (inl none) =
     let long : length bytes ≡ 0 = ap length empty in omega (arith, none.1, long)
-ends_apart bytes (inl empty) (inr last) = none_some last.0 (sym (ap (λ (l : List ℕ). head_len (take head_limit l)) empty) ∙ last.1)
+ends_apart bytes (inl empty) (inr last) = none_some last.0 (sym (ap (λ (l : List ℕ). head_len (take HEAD_BYTES l)) empty) ∙ last.1)
 ends_apart bytes (inr (inl short)) (inl none) = omega (arith, short.1, none.1)
 ends_apart bytes (inr (inl short)) (inr last) =
-    let low : length bytes ≤ head_limit = omega (arith, short.1) in
-    none_some last.0 (sym (ap head_len (take_all head_limit bytes low) ∙ short.0) ∙ last.1)
+    let low : length bytes ≤ HEAD_BYTES = omega (arith, short.1) in
+    none_some last.0 (sym (ap head_len (take_all HEAD_BYTES bytes low) ∙ short.0) ∙ last.1)
 ends_apart bytes (inr (inr head)) (inl none) = none_some (length head.0) (sym none.0 ∙ head.2.ends)
 ends_apart bytes (inr (inr head)) (inr last) =
     let long : last.0 ≡ length head.0 = some_same last.0 (length head.0) (sym last.1 ∙ head.2.ends) in

@@ -4,6 +4,7 @@ use Rattle.std.specs.List.{list_all, list_any, starts_with}
 use Rattle.std.specs.Char.{is_ascii_digit}
 use Rattle.std.specs.Str.{str_eq_ignore_ascii_case}
 use Rattle.std.specs.Str.Parse.{digits_value}
+use Rattle.es_types.specs.declared.limits.TheConstants.{BODY_BYTES}
 use Rattle.httparse.specs.Grammar.{RequestHead, ReadsRequest}
 use Rattle.httparse.specs.Spans.{name_and_value}
 
@@ -29,10 +30,6 @@ is_length line = str_eq_ignore_ascii_case line.0 (codes "content-length")
 abbrev pub is_moment : List ℕ × List ℕ → Bool
 is_moment line = str_eq_ignore_ascii_case line.0 (codes "x-moment")
 
--- the longest body
-abbrev pub body_limit : ℕ
-body_limit = 104857600
-
 -- the number of 1 to so many digits, where it is at most the limit
 abbrev pub number_of : ℕ → ℕ → List ℕ → Option ℕ
 number_of most limit digits =
@@ -43,7 +40,7 @@ number_of most limit digits =
 -- the length that these lines of that name give, in at most 18 digits: none is a body without bytes, and more than one is none
 abbrev pub length_of : List (List ℕ × List ℕ) → Option ℕ
 length_of [] = Some 0
-length_of (line ∷ []) = number_of 18 body_limit line.1
+length_of (line ∷ []) = number_of 18 BODY_BYTES line.1
 length_of (line ∷ other ∷ lines) = None
 
 -- what these lines of that name hand in, as it is sent: none is no moment, and more than one is no head. The grammar's values have

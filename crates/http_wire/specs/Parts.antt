@@ -1,13 +1,14 @@
 -- Where the parts of a head are.
 use Rattle.std.specs.Prelude.{◌≡◌, ℕ, ◌+◌, ◌≤◌, ◌==◌, ◌&&◌, Bool, if◌then◌else◌, List, [], ◌∷◌, length, map, filter, slice_index, slice_range, Option, Some, None, IfSome, option_map, option_and_then}
 use Rattle.std.specs.List.{list_all}
+use Rattle.es_types.specs.declared.limits.TheConstants.{BODY_BYTES}
 use Rattle.httparse.specs.declared.spans.HeaderSpan.{HeaderSpan}
 use Rattle.httparse.specs.declared.spans.RequestSpans.{RequestSpans}
 use Rattle.httparse.specs.declared.spans.Span.{Span}
 use Rattle.httparse.specs.Spans.{IsWithin, header_bytes, span_bytes}
 use Rattle.http_wire.specs.declared.head.Parsed.{Parsed}
 use Rattle.http_wire.specs.declared.request.Request.{Request}
-use Rattle.http_wire.specs.Heads.{Head, IsHead, body_limit, is_known, is_length, is_moment, length_of}
+use Rattle.http_wire.specs.Heads.{Head, IsHead, is_known, is_length, is_moment, length_of}
 use Rattle.http_wire.specs.Requests.{request_of}
 
 -- the bytes are a head that is taken, and these are its parts
@@ -24,7 +25,7 @@ pub record IsParsedWithin (long : ℕ) (parsed : Parsed) : Type 0 where
   pub method : IsWithin long parsed.method
   pub target : IsWithin long parsed.target
   pub moment : IfSome parsed.moment (IsWithin long)
-  pub body : parsed.body ≤ body_limit
+  pub body : parsed.body ≤ BODY_BYTES
 
 -- what a head that was read has to meet besides the grammar
 abbrev pub is_taken_head : List ℕ → List HeaderSpan → RequestSpans → Bool

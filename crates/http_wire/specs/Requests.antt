@@ -1,18 +1,12 @@
 -- A request, and which requests the bytes of a connection are.
 use Rattle.std.specs.Prelude.{◌≡◌, ◌⊎◌, ℕ, ◌+◌, ◌<◌, ◌≤◌, false, List, [], ◌∷◌, ◌++◌, length, take, Some, None}
+use Rattle.es_types.specs.declared.limits.TheConstants.{HEAD_BYTES}
 use Rattle.http_wire.specs.declared.request.Request.{Request}
 use Rattle.http_wire.specs.Heads.{Head, IsHead, head_len, path_of, query_of}
 
--- in how many bytes a head ends, and how many bytes a connection may send
-abbrev pub head_limit : ℕ
-head_limit = 16384
-
-abbrev pub connection_limit : ℕ
-connection_limit = 1073741824
-
 -- the first bytes of the stream are a head
 pub record BeginsWithHead (stream : List ℕ) (bytes : List ℕ) (head : Head) : Type 0 where
-  pub ends : head_len (take head_limit stream) ≡ Some (length bytes)
+  pub ends : head_len (take HEAD_BYTES stream) ≡ Some (length bytes)
   pub first : take (length bytes) stream ≡ bytes
   pub is : IsHead bytes head
 
@@ -40,14 +34,14 @@ pub record Begins (stream : List ℕ) (request : Request) (rest : List ℕ) : Ty
 -- the stream is less than a whole head, or a head and less than its body
 abbrev pub IsUnfinished : List ℕ → Type 0
 IsUnfinished stream =
-    ((head_len stream ≡ None) × (length stream < head_limit))
+    ((head_len stream ≡ None) × (length stream < HEAD_BYTES))
     ⊎ ((bytes : List ℕ) × (head : Head) × BeginsWithHead stream bytes head × (length stream < length bytes + head.body))
 
 -- The stream begins with no head that is taken: no head ends in time, or the first is none of those.
 abbrev pub IsRefused : List ℕ → Type 0
 IsRefused stream =
-    ((head_len (take head_limit stream) ≡ None) × (head_limit ≤ length stream))
-    ⊎ ((n : ℕ) × (head_len (take head_limit stream) ≡ Some n) × ((head : Head) → IsHead (take n stream) head → ⊥))
+    ((head_len (take HEAD_BYTES stream) ≡ None) × (HEAD_BYTES ≤ length stream))
+    ⊎ ((n : ℕ) × (head_len (take HEAD_BYTES stream) ≡ Some n) × ((head : Head) → IsHead (take n stream) head → ⊥))
 
 -- the stream is these requests in turn, and then the rest
 abbrev pub Spells : List ℕ → List Request → List ℕ → Type 0

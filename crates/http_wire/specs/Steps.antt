@@ -1,9 +1,10 @@
 -- What the steps of a call say: which bytes came, and why no more did.
 use Rattle.std.specs.Prelude.{◌≡◌, ℕ, ◌+◌, ◌<◌, ◌≤◌, Bool, true, false, List, [], ◌++◌, length, take, Option, Some, None, Result, Ok, Err}
+use Rattle.es_types.specs.declared.limits.TheConstants.{HEAD_BYTES}
 use Rattle.http_wire.specs.declared.wire.WireEnd.{WireEnd}
 use Rattle.http_wire.specs.Heads.{head_len}
-use Rattle.http_wire.specs.Requests.{head_limit, HasNoRequest, IsUnfinished}
-use Rattle.http_wire.specs.Stream.{Held, HasEnded}
+use Rattle.http_wire.specs.Requests.{HasNoRequest, IsUnfinished}
+use Rattle.http_wire.specs.Stream.{Buffered, HasEnded}
 
 -- these bytes were taken from what the link had left, where it tells that
 abbrev pub CameFrom : Option (List ℕ) → Option (List ℕ) → List ℕ → Type 0
@@ -11,7 +12,7 @@ CameFrom None left taken = Unit {0}
 CameFrom (Some before) left taken = (after : List ℕ) × (before ≡ taken ++ after) × (left ≡ Some after)
 
 -- bytes came from the link, and are held behind the others
-pub record Came (old new : Held) (before left : Option (List ℕ)) : Type 0 where
+pub record Came (old new : Buffered) (before left : Option (List ℕ)) : Type 0 where
   pub taken : List ℕ
   pub bytes : new.bytes ≡ old.bytes ++ taken
   pub room : new.room + length taken ≡ old.room
@@ -23,12 +24,12 @@ IsDry None = Unit {0}
 IsDry (Some before) = before ≡ []
 
 -- the end has this cause
-abbrev pub EndedOf : Held → Option (List ℕ) → Option (List ℕ) → WireEnd → Type 0
+abbrev pub EndedOf : Buffered → Option (List ℕ) → Option (List ℕ) → WireEnd → Type 0
 EndedOf old None left end = Unit {0}
 EndedOf old (Some before) left end = HasEnded old before left end
 
 -- a read gave more bytes, or the input had ended, or a call ends here if what is held is no request
-abbrev pub ReadMore : Held → Held → Option (List ℕ) → Option (List ℕ) → Result Bool WireEnd → Type 0
+abbrev pub ReadMore : Buffered → Buffered → Option (List ℕ) → Option (List ℕ) → Result Bool WireEnd → Type 0
 ReadMore old new before left (Ok true) = Came old new before left × (new.room < old.room)
 ReadMore old new before left (Ok false) = IsDry before
 ReadMore old new before left (Err end) = HasNoRequest old.bytes → EndedOf old before left end
@@ -36,17 +37,17 @@ ReadMore old new before left (Err end) = HasNoRequest old.bytes → EndedOf old 
 -- the same where no byte may be taken
 abbrev pub Probed : Option (List ℕ) → Option (List ℕ) → Result Bool WireEnd → Type 0
 Probed before left result =
-    (old : Held) → old.room ≡ 0 → ReadMore old old before left result
+    (old : Buffered) → old.room ≡ 0 → ReadMore old old before left result
 
 -- neither a byte was held, nor any was left
-abbrev pub IsNothing : Held → Option (List ℕ) → Type 0
+abbrev pub IsNothing : Buffered → Option (List ℕ) → Type 0
 IsNothing old None = Unit {0}
 IsNothing old (Some before) = (old.bytes ≡ []) × (before ≡ [])
 
 -- a head of that length has come, whatever it says
-abbrev pub HeadCame : Held → Held → Option (List ℕ) → Option (List ℕ) → Result (Option ℕ) WireEnd → Type 0
+abbrev pub HeadCame : Buffered → Buffered → Option (List ℕ) → Option (List ℕ) → Result (Option ℕ) WireEnd → Type 0
 HeadCame old new before left (Ok None) = IsNothing old before
-HeadCame old new before left (Ok (Some n)) = Came old new before left × (head_len (take head_limit new.bytes) ≡ Some n)
+HeadCame old new before left (Ok (Some n)) = Came old new before left × (head_len (take HEAD_BYTES new.bytes) ≡ Some n)
 HeadCame old new before left (Err end) = EndedOf old before left end
 
 -- less than that many bytes are an unfinished request
@@ -54,6 +55,6 @@ abbrev pub IsShort : List ℕ → ℕ → Type 0
 IsShort bytes long = (more : List ℕ) → length (bytes ++ more) < long → IsUnfinished (bytes ++ more)
 
 -- that many bytes are held, or the input ended before
-abbrev pub BodyCame : Held → Held → Option (List ℕ) → Option (List ℕ) → ℕ → Result Unit WireEnd → Type 0
+abbrev pub BodyCame : Buffered → Buffered → Option (List ℕ) → Option (List ℕ) → ℕ → Result Unit WireEnd → Type 0
 BodyCame old new before left long (Ok _) = Came old new before left × (long ≤ length new.bytes)
 BodyCame old new before left long (Err end) = EndedOf old before left end

@@ -1,16 +1,12 @@
 ghost use Rattle.std.specs.Prelude.{◌≡◌, ◌+◌, ◌-◌, ◌<◌, ◌≤◌, [], length, take, drop, IfOk, IfSome, IfNone, OnOk, OnErr};
-ghost use Rattle.http_wire.specs.Requests.{connection_limit};
 ghost use Rattle.http_wire.specs.Steps.{Probed, ReadMore};
 ghost use Rattle.es_outside.specs.Told.{Gives, Rose};
 
 use crate::WireEnd;
 use es_outside::{Failed, Link};
-use es_types::NoMemory;
+use es_types::{CONNECTION_BYTES, NoMemory};
 use std::alloc::Global;
 use std::marker::Model;
-
-/// How many bytes a connection may give.
-const CONNECTION_LIMIT: u64 = 1_073_741_824;
 
 /// The length of the first buffer.
 const FIRST_LEN: usize = 16_384;
@@ -26,20 +22,20 @@ pub struct Buf {
 
 impl Model for Buf {
     ghost use Rattle.std.specs.Prelude.{◌+◌, ◌-◌, ◌≤◌, length, take, drop};
-    ghost use Rattle.http_wire.specs.Requests.{connection_limit};
-    ghost use Rattle.http_wire.specs.Stream.{Held};
+    ghost use Rattle.es_types.specs.declared.limits.TheConstants.{CONNECTION_BYTES};
+    ghost use Rattle.http_wire.specs.Stream.{Buffered};
 
-    ghost Value = { Held };
+    ghost Value = { Buffered };
 
-    ghost view = { λ b. record { bytes = take (b.end - b.start) (drop b.start b.bytes.items); room = connection_limit - b.taken } };
+    ghost view = { λ b. record { bytes = take (b.end - b.start) (drop b.start b.bytes.items); room = CONNECTION_BYTES - b.taken } };
 
-    ghost invariant = { λ b. (b.start ≤ b.end) × (b.end ≤ length b.bytes.items) × (b.taken ≤ connection_limit) };
+    ghost invariant = { λ b. (b.start ≤ b.end) × (b.end ≤ length b.bytes.items) × (b.taken ≤ CONNECTION_BYTES) };
 }
 
 impl Buf {
     /// An empty buffer.
     pub fn make(alloc: Global) -> Result<Buf, NoMemory>
-        ensures { IfOk result (λ buf. buf ≡ record { bytes = []; room = connection_limit }) }
+        ensures { IfOk result (λ buf. buf ≡ record { bytes = []; room = CONNECTION_BYTES }) }
     {
         Ok(Buf {
             bytes: Vec::new(alloc),
@@ -79,7 +75,7 @@ pub(crate) fn read_more<L: Link>(link: &mut L, buf: &mut Buf) -> Result<bool, Wi
     ensures write_faults { L.write_faults link.new ≡ L.write_faults link.old }
     ensures held { L.held link.new ≡ L.held link.old }
 {
-    if buf.taken >= CONNECTION_LIMIT {
+    if buf.taken >= CONNECTION_BYTES {
         return probe(link);
     }
     let Some(moved) = make_room(&mut buf.bytes, buf.start, buf.end) else {
@@ -87,7 +83,7 @@ pub(crate) fn read_more<L: Link>(link: &mut L, buf: &mut Buf) -> Result<bool, Wi
     };
     buf.start -= moved;
     buf.end -= moved;
-    let most = (CONNECTION_LIMIT - buf.taken) as usize;
+    let most = (CONNECTION_BYTES - buf.taken) as usize;
     match read_behind(link, buf.bytes.as_mut_slice(), buf.end, most) {
         Ok(count) => {
             buf.end += count;

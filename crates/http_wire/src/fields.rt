@@ -1,14 +1,12 @@
 ghost use Rattle.std.specs.Prelude.{◌≡◌, ◌<◌, ◌≤◌, ◌^◌, length, map, filter, All, IfSome};
 ghost use Rattle.std.specs.List.{list_all};
-ghost use Rattle.http_wire.specs.Heads.{body_limit, is_known, is_length, length_of, number_of};
+ghost use Rattle.http_wire.specs.Heads.{is_known, is_length, length_of, number_of};
 ghost use Rattle.http_wire.specs.Names.{is_known_name, is_length_name, is_moment_name};
 ghost use Rattle.http_wire.specs.Parts.{moment_in};
 ghost use Rattle.httparse.specs.Spans.{IsHeaderWithin, IsWithin, header_bytes};
 
+use es_types::BODY_BYTES;
 use httparse::spans::{HeaderSpan, Span};
-
-/// The longest body.
-const BODY_LIMIT: u64 = 104_857_600;
 
 /// Whether the names of all header lines are known.
 pub(crate) fn all_known(bytes: &[u8], headers: &[HeaderSpan]) -> bool
@@ -68,7 +66,7 @@ pub(crate) fn moment_in(bytes: &[u8], headers: &[HeaderSpan]) -> Option<Option<S
 pub(crate) fn length_in(bytes: &[u8], headers: &[HeaderSpan]) -> Option<usize>
     requires { All (IsHeaderWithin (length bytes.now)) headers.now }
     ensures is { result ≡ length_of (filter is_length (map (header_bytes bytes.now) headers.now)) }
-    ensures bound { IfSome result (λ length. length ≤ body_limit) }
+    ensures bound { IfSome result (λ length. length ≤ BODY_BYTES) }
 {
     let mut found = None;
     for header in headers {
@@ -76,7 +74,7 @@ pub(crate) fn length_in(bytes: &[u8], headers: &[HeaderSpan]) -> Option<usize>
             if found.is_some() {
                 return None;
             }
-            found = Some(number(header.value.of(bytes), 18, BODY_LIMIT)? as usize);
+            found = Some(number(header.value.of(bytes), 18, BODY_BYTES)? as usize);
         }
     }
     Some(found.unwrap_or(0))

@@ -1,17 +1,13 @@
 ghost use Rattle.std.specs.Prelude.{◌≡◌, ◌+◌, ◌≤◌, ◌==◌, length, take, drop, option_map, slice_index, All, IfSome, IfNone};
-ghost use Rattle.http_wire.specs.Heads.{Head, IsHead, body_limit, head_len};
-ghost use Rattle.http_wire.specs.Requests.{head_limit};
+ghost use Rattle.es_types.specs.declared.limits.TheConstants.{BODY_BYTES};
+ghost use Rattle.http_wire.specs.Heads.{Head, IsHead, head_len};
 ghost use Rattle.http_wire.specs.Parts.{IsParsed, IsParsedWithin, is_taken_head, parsed_of};
 ghost use Rattle.httparse.specs.Spans.{IsHeaderWithin, IsWithin};
 
 use crate::fields::{all_known, length_in, moment_in};
+use es_types::{HEAD_BYTES, HEADER_LINES};
 use httparse::Status;
 use httparse::spans::{EMPTY_HEADER_SPAN, HeaderSpan, RequestSpans, Span, parse_request};
-
-/// In how many bytes a head has to end.
-pub(crate) const HEAD_LIMIT: usize = 16_384;
-
-const MAX_HEADERS: usize = 100;
 
 /// Where the parts of a head are, and how long its body is. `moment` is the value of its `x-moment`.
 #[derive(Clone, Copy)]
@@ -25,11 +21,11 @@ pub(crate) struct Parsed {
 /// In how many of the first 16,384 bytes a head ends, where it doesn't end in the first `seen` bytes.
 pub(crate) fn head_end(held: &[u8], seen: usize) -> Option<usize>
     requires seen { seen ≤ length held.now }
-    requires limit { seen ≤ head_limit }
+    requires limit { seen ≤ HEAD_BYTES }
     requires none { head_len (take seen held.now) ≡ None }
-    ensures { result ≡ head_len (take head_limit held.now) }
+    ensures { result ≡ head_len (take HEAD_BYTES held.now) }
 {
-    let window = &held[..held.len().min(HEAD_LIMIT)];
+    let window = &held[..held.len().min(HEAD_BYTES)];
     scan(window, seen.saturating_sub(3))
 }
 
@@ -51,7 +47,7 @@ pub(crate) fn head_of(bytes: &[u8]) -> Option<Parsed>
     ensures within { IfSome result (IsParsedWithin (length bytes.now)) }
     ensures not { IfNone result ((head : Head) → IsHead bytes.now head → ⊥) }
 {
-    let mut headers = [EMPTY_HEADER_SPAN; MAX_HEADERS];
+    let mut headers = [EMPTY_HEADER_SPAN; HEADER_LINES];
     match parse_request(bytes, &mut headers) {
         Ok(Status::Complete(spans)) => accept(bytes, &headers[..spans.headers], &spans),
         _ => None,

@@ -7,11 +7,11 @@ ghost use Rattle.http_wire.specs.Stream.{NextOf, Wrote, WroteSome, size};
 ghost use Rattle.es_outside.specs.Told.{Rose};
 
 use crate::buf::read_more;
-use crate::head::{HEAD_LIMIT, Parsed, head_end, head_of};
+use crate::head::{Parsed, head_end, head_of};
 use crate::make::{make_bytes, make_request};
 use crate::{Buf, Request};
 use es_outside::Link;
-use es_types::Bytes;
+use es_types::{Bytes, HEAD_BYTES};
 use httparse::spans::Span;
 use std::alloc::Global;
 
@@ -80,7 +80,7 @@ fn read_head<L: Link>(link: &mut L, buf: &mut Buf) -> Result<Option<usize>, Wire
             return Ok(Some(long));
         }
         seen = held.len();
-        if seen >= HEAD_LIMIT {
+        if seen >= HEAD_BYTES {
             return Err(WireEnd::NotBuilt);
         }
         match read_more(link, buf) {

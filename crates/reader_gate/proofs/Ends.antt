@@ -9,7 +9,7 @@ use Rattle.atomic_table.specs.Table.{State, Me, step, keeps, gives, Allows, Ente
 use Rattle.atomic_table.proofs.Lists.{at_snoc, set_again, set_else}
 use Rattle.reader_gate.specs.declared.gate.View.{View}
 use Rattle.reader_gate.specs.Ends.{IsAlone, EndsAtLast, EndsOnce, LetsOneGo}
-use Rattle.reader_gate.specs.Holds.{held, total, Stands, IsCounted}
+use Rattle.reader_gate.specs.Holds.{held, total, Stands, KeepsCount}
 use Rattle.reader_gate.specs.Steps.{spent, taken_in, sits, looks, gives_back}
 use Rattle.reader_gate.proofs.Keeps.{none_stands, same_sums}
 use Rattle.reader_gate.proofs.Totals.{total-set, total-snoc, total-append, total-at, total-first, total-none, total-some, total-two}
@@ -20,13 +20,13 @@ module _ {A B : Type 0} (told : A → B) where
     St = State (Option A) (View B)
 
     -- where a seat had the last hold there is none
-    none_held : (s : St) → IsCounted told body s → (id : ℕ) (v : View B) → get_elem? s.views id ≡ some v → 0 < v.lasts → held s.views ≡ 0
+    none_held : (s : St) → KeepsCount told body s → (id : ℕ) (v : View B) → get_elem? s.views id ≡ some v → 0 < v.lasts → held s.views ≡ 0
     none_held s r id v at last =
         let one = total-at (λ u. u.lasts) s.views id v at in
         dite (ℕ_discrete (held s.views) 0) (λ none_left. none_left) (λ some_left. let none_last = r.open_none_last (omega arith) in absurd (omega arith))
 
     -- nobody has a hold beside it, and it is the only one
-    pub alone : (s : St) → IsCounted told body s → (id : ℕ) (v : View B) → get_elem? s.views id ≡ some v → 0 < v.lasts → IsAlone s id v
+    pub alone : (s : St) → KeepsCount told body s → (id : ℕ) (v : View B) → get_elem? s.views id ≡ some v → 0 < v.lasts → IsAlone s id v
     alone s r id v at last =
         let empty = none_held s r id v at last in
         let one = r.ended_one_last empty in
@@ -38,7 +38,7 @@ module _ {A B : Type 0} (told : A → B) where
         }
 
     -- a seat with no hold comes
-    pub comes : (slots : ℕ) (m : Me (Option A) (View B)) → Enters (IsCounted told body) slots 0 (λ n w. sits (step slots 0 0 0 none) m n (w, []))
+    pub comes : (slots : ℕ) (m : Me (Option A) (View B)) → Enters (KeepsCount told body) slots 0 (λ n w. sits (step slots 0 0 0 none) m n (w, []))
     comes slots m s r _ _ =
         let all = total-snoc (λ u. u.holds) s.views spent in
         let all' = total-snoc (λ u. u.lasts) s.views spent in
@@ -55,7 +55,7 @@ module _ {A B : Type 0} (told : A → B) where
         )
 
     -- a seat that had the last hold takes in another that has a hold or had the last one too: there is no such other
-    pub joins : (id other : ℕ) (v w : View B) → 0 < v.lasts → (0 < w.holds) ⊎ (0 < w.lasts) → Joins (IsCounted told body) id v other w (taken_in v w) spent
+    pub joins : (id other : ℕ) (v w : View B) → 0 < v.lasts → (0 < w.holds) ⊎ (0 < w.lasts) → Joins (KeepsCount told body) id v other w (taken_in v w) spent
     joins id other v w last either s r at ne at' =
         let there : get_elem? s.views other ≡ some w = sym (set_else s.views id other (taken_in v w) ne) ∙ at' in
         let is = alone s r id v at last in
@@ -64,21 +64,21 @@ module _ {A B : Type 0} (told : A → B) where
         absurd (⊎_elim (λ h. omega arith) (λ h. omega arith) either)
 
     -- a word that is written as it was
-    same_words : (s : St) → IsCounted told body s → set s.words 0 (get_or s.words 0 0) ≡ s.words
+    same_words : (s : St) → KeepsCount told body s → set s.words 0 (get_or s.words 0 0) ≡ s.words
     same_words s r = rw r.counted refl
 
     -- a look changes nothing, and tells a seat that had the last hold that it is alone
-    pub sees : (slots id : ℕ) (me : Me (Option A) (View B)) → Allows (IsCounted told body) slots id me 0 (λ n. n) (looks (step slots 0 0 0 none) me)
+    pub sees : (slots id : ℕ) (me : Me (Option A) (View B)) → Allows (KeepsCount told body) slots id me 0 (λ n. n) (looks (step slots 0 0 0 none) me)
     sees slots id me s r _ at _ = (
       me.0,
       keeps,
       tt,
-      subst (λ (z : List ℕ × List (View B)). IsCounted told body record { words = z.0; homes = s.homes; views = z.1 }) (λ i. (sym (same_words s r) i, sym (set_again s.views id me.0 at) i)) r,
+      subst (λ (z : List ℕ × List (View B)). KeepsCount told body record { words = z.0; homes = s.homes; views = z.1 }) (λ i. (sym (same_words s r) i, sym (set_again s.views id me.0 at) i)) r,
       λ last. let is = alone s r id me.0 at last in (is.once, is.no_holder id me.0 at),
     )
 
     -- the slot that was taken comes back, empty
-    pub returns_slot : (slots id : ℕ) (me : Me (Option A) (View B)) → 0 < me.0.lasts → me.1 ≡ (0, None) ∷ [] → Allows (IsCounted told body) slots id me 0 (λ n. n) (gives_back (step slots 0 0 0 none) me)
+    pub returns_slot : (slots id : ℕ) (me : Me (Option A) (View B)) → 0 < me.0.lasts → me.1 ≡ (0, None) ∷ [] → Allows (KeepsCount told body) slots id me 0 (λ n. n) (gives_back (step slots 0 0 0 none) me)
     returns_slot slots id me last has s r _ at _ =
         let empty = none_held s r id me.0 at last in
         let home : put_back s.homes me.1 ≡ some None ∷ [] = ap (λ (c : List (ℕ × Option A)). put_back s.homes c) has
@@ -86,7 +86,7 @@ module _ {A B : Type 0} (told : A → B) where
           me.0,
           gives,
           tt,
-          subst (λ (z : List ℕ × List (View B)). IsCounted told body record { words = z.0; homes = put_back s.homes me.1; views = z.1 }) (λ i. (sym (same_words s r) i, sym (set_again s.views id me.0 at) i))
+          subst (λ (z : List ℕ × List (View B)). KeepsCount told body record { words = z.0; homes = put_back s.homes me.1; views = z.1 }) (λ i. (sym (same_words s r) i, sym (set_again s.views id me.0 at) i))
               record {
                 counted = r.counted;
                 balanced = r.balanced;

@@ -9,7 +9,7 @@ use Rattle.atomic_table.specs.Table.{State, Me, step, keeps, takes, stepped, All
 use Rattle.atomic_table.proofs.Lists.{at_set, at_snoc}
 use Rattle.reader_gate.specs.declared.gate.Role.TheVariants.{Owning, Gone}
 use Rattle.reader_gate.specs.declared.gate.View.{View}
-use Rattle.reader_gate.specs.Holds.{held, lasts, total, Stands, IsCounted}
+use Rattle.reader_gate.specs.Holds.{held, lasts, total, Stands, KeepsCount}
 use Rattle.reader_gate.specs.Steps.{opening, lending, one_kept, one_given, gone_of, last_of, lent, lets_go}
 use Rattle.reader_gate.proofs.Totals.{total-set, total-snoc, total-at, total-first}
 
@@ -26,7 +26,7 @@ module _ {A B : Type 0} (told : A → B) (body : B) where
   first_seat (suc seat) v at = absurd (some-ne-none v (sym at))
 
   -- a new reader
-  pub opens : (a : A) → told a ≡ body → IsCounted told body (table_opening (1 ∷ []) (Some a ∷ []) (opening body))
+  pub opens : (a : A) → told a ≡ body → KeepsCount told body (table_opening (1 ∷ []) (Some a ∷ []) (opening body))
   opens a is = record {
     counted = refl;
     balanced = refl;
@@ -38,9 +38,9 @@ module _ {A B : Type 0} (told : A → B) (body : B) where
   }
 
   -- a view changes, and the word with it, and there is still a hold
-  changed : (s : St) (r : IsCounted told body s) (n id : ℕ) (v w : View B) (c : List (ℕ × Option A)) → get_elem? s.views id ≡ some v → 0 < held s.views → 0 < n
+  changed : (s : St) (r : KeepsCount told body s) (n id : ℕ) (v w : View B) (c : List (ℕ × Option A)) → get_elem? s.views id ≡ some v → 0 < held s.views → 0 < n
       → n + v.holds ≡ held s.views + w.holds → w.lasts ≡ v.lasts → w.holds + w.lets + v.lends ≡ v.holds + v.lets + w.lends → Stands body id w
-      → IsCounted told body (stepped s 0 n id c w keeps)
+      → KeepsCount told body (stepped s 0 n id c w keeps)
   changed s r n id v w c at some_held some_left moved same even mine =
       let sum = total-set (λ u. u.holds) s.views id v w at in
       let sum' = total-set (λ u. u.lasts) s.views id v w at in
@@ -65,9 +65,9 @@ module _ {A B : Type 0} (told : A → B) (body : B) where
       }
 
   -- views with the same sums
-  pub same_sums : (s : St) (r : IsCounted told body s) (views : List (View B)) → held views ≡ held s.views → lasts views ≡ lasts s.views
+  pub same_sums : (s : St) (r : KeepsCount told body s) (views : List (View B)) → held views ≡ held s.views → lasts views ≡ lasts s.views
       → held views + total (λ v. v.lets) views ≡ 1 + total (λ v. v.lends) views
-      → ((j : ℕ) (u : View B) → get_elem? views j ≡ some u → Stands body j u) → IsCounted told body record { words = s.words; homes = s.homes; views = views }
+      → ((j : ℕ) (u : View B) → get_elem? views j ≡ some u → Stands body j u) → KeepsCount told body record { words = s.words; homes = s.homes; views = views }
   same_sums s r views h l even each = record {
     counted = r.counted ∙ ap (λ (k : ℕ). k ∷ []) (sym h);
     balanced = even;
@@ -79,14 +79,14 @@ module _ {A B : Type 0} (told : A → B) (body : B) where
   }
 
   -- the word is at most 1 more than the first seat's lends
-  within : (s : St) (r : IsCounted told body s) (v : View B) → get_elem? s.views 0 ≡ some v → held s.views ≤ 1 + v.lends
+  within : (s : St) (r : KeepsCount told body s) (v : View B) → get_elem? s.views 0 ≡ some v → held s.views ≤ 1 + v.lends
   within s r v at =
       let all = total-first (λ u. u.lends) s.views v at (λ j u ne e. (r.each j u e).lender ne) in
       let even = r.balanced in omega arith
 
   -- a lend
   pub lends : (slots id : ℕ) (me : Me (Option A) (View B)) → me.0.role ≡ Owning → me.0.holds ≡ 1 → me.0.lends < 9007199254740992
-      → Allows (IsCounted told body) slots id me 0 (λ n. (n + 1) % 2 ^ 64) (lent (step slots 0 1 0 none) me)
+      → Allows (KeepsCount told body) slots id me 0 (λ n. (n + 1) % 2 ^ 64) (lent (step slots 0 1 0 none) me)
   lends slots id me owns one few s r _ at small =
       let v = me.0 in
       let w = lending v in
@@ -100,7 +100,7 @@ module _ {A B : Type 0} (told : A → B) (body : B) where
         w,
         keeps,
         tt,
-        subst (λ (k : ℕ). IsCounted told body (stepped s 0 k id me.1 w keeps)) next
+        subst (λ (k : ℕ). KeepsCount told body (stepped s 0 k id me.1 w keeps)) next
             (changed s r (held s.views + 1) id v w me.1 at (omega arith) (omega arith) (omega arith) refl (omega arith)
             record { owner = λ _. (is.0, inr (omega arith)); lender = λ ne. absurd (ne is.0); freed = mine.freed; pass = λ e. (cc); gone = λ e. (cc); opened = mine.opened }),
         refl,
@@ -111,8 +111,8 @@ module _ {A B : Type 0} (told : A → B) (body : B) where
   none_stands j u is empty first less o = record { owner = λ e. (cc); lender = first; freed = less; pass = λ e. (cc); gone = λ _. empty; opened = o }
 
   -- the last hold goes, and the seat has the slot
-  ends : (s : St) (r : IsCounted told body s) (id : ℕ) (v : View B) (c : List (ℕ × Option A)) (a : A) → get_elem? s.views id ≡ some v → v.holds ≡ 1 → v.lasts ≡ 0 → held s.views ≡ 1
-      → s.homes ≡ some (Some a) ∷ [] → IsCounted told body (stepped s 0 0 id c (last_of v) (takes 0 (Some a)))
+  ends : (s : St) (r : KeepsCount told body s) (id : ℕ) (v : View B) (c : List (ℕ × Option A)) (a : A) → get_elem? s.views id ≡ some v → v.holds ≡ 1 → v.lasts ≡ 0 → held s.views ≡ 1
+      → s.homes ≡ some (Some a) ∷ [] → KeepsCount told body (stepped s 0 0 id c (last_of v) (takes 0 (Some a)))
   ends s r id v c a at one none_yet sole home =
       let w = last_of v in
       let mine = r.each id v at in
@@ -139,7 +139,7 @@ module _ {A B : Type 0} (told : A → B) (body : B) where
 
   -- a hold is let go
   pub leaves : (slots id : ℕ) (me : Me (Option A) (View B)) → me.0.holds ≡ 1 → me.0.lasts ≡ 0
-      → Allows (IsCounted told body) slots id me 0 (λ n. (n + (2 ^ 64 - 1)) % 2 ^ 64) (lets_go told (step slots 0 1 0 none) me)
+      → Allows (KeepsCount told body) slots id me 0 (λ n. (n + (2 ^ 64 - 1)) % 2 ^ 64) (lets_go told (step slots 0 1 0 none) me)
   leaves slots id me one none_yet s r _ at small =
       let v = me.0 in
       let mine = r.each id v at in
@@ -155,7 +155,7 @@ module _ {A B : Type 0} (told : A → B) (body : B) where
         last_of v,
         takes 0 (Some home.0),
         ap (λ (hs : List (maybe.Option (Option A))). get_elem? hs 0) home.2,
-        subst (λ (k : ℕ). IsCounted told body (stepped s 0 k id me.1 (last_of v) (takes 0 (Some home.0)))) none_left
+        subst (λ (k : ℕ). KeepsCount told body (stepped s 0 k id me.1 (last_of v) (takes 0 (Some home.0)))) none_left
             (ends s r id v me.1 home.0 at one none_yet (omega arith) home.2),
         ((λ _. (home.0, refl, λ b e. home.1 ∙ sym (mine.opened b e))), λ other. absurd (other sole)),
       ))
@@ -163,14 +163,14 @@ module _ {A B : Type 0} (told : A → B) (body : B) where
         gone_of v,
         keeps,
         tt,
-        subst (λ (k : ℕ). IsCounted told body (stepped s 0 k id me.1 (gone_of v) keeps)) next
+        subst (λ (k : ℕ). KeepsCount told body (stepped s 0 k id me.1 (gone_of v) keeps)) next
             (changed s r left id v (gone_of v) me.1 at (omega arith) (omega arith) (omega arith) refl (omega arith)
             (none_stands id (gone_of v) refl (omega arith) mine.lender (omega arith) mine.opened)),
         ((λ sole. absurd (others sole)), λ _. refl),
       ))
 
   -- a split
-  pub splits : (id : ℕ) (v : View B) → v.role ≡ Owning → v.holds ≡ 2 → Splits (IsCounted told body) id v (one_kept v) (one_given v)
+  pub splits : (id : ℕ) (v : View B) → v.role ≡ Owning → v.holds ≡ 2 → Splits (KeepsCount told body) id v (one_kept v) (one_given v)
   splits id v owns two s r at =
       let w = one_kept v in
       let p = one_given v in

@@ -37,7 +37,7 @@ module _ {B : Type 0} where
     pub opened : (b : B) → v.body ≡ Some b → b ≡ body
 
 -- The rule. What the slot has is an A, by which a body is told
-pub record IsCounted {A B : Type 0} (told : A → B) (body : B) (s : State (Option A) (View B)) : Type 0 where
+pub record KeepsCount {A B : Type 0} (told : A → B) (body : B) (s : State (Option A) (View B)) : Type 0 where
   -- the one word is the sum of the holds in all views
   pub counted : s.words ≡ held s.views ∷ []
   -- The holds and those that were let go are 1 and the lends, so the word is at most 1 more than the first seat's lends. Nothing but a step that

@@ -34,10 +34,10 @@ pub struct Counted;
 
 impl<B> TableRule<Option<Arc<B>>, View<B>, Snapshot<B>> for Counted {
     ghost use Rattle.std.specs.Arc.{arc_value};
-    ghost use Rattle.reader_gate.specs.Holds.{IsCounted};
+    ghost use Rattle.reader_gate.specs.Holds.{KeepsCount};
     ghost use Rattle.reader_gate.specs.Steps.{opening};
 
-    ghost holds = { λ key. IsCounted arc_value key.value };
+    ghost holds = { λ key. KeepsCount arc_value key.value };
 
     ghost first = { λ key. opening key.value };
 }

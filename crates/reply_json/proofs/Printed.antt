@@ -8,7 +8,7 @@ use Rattle.std.proofs.lemmas.List.{take_more, length-take-le}
 use Rattle.http.specs.StatusCode.{IsStatusCode, reason_phrase}
 use Rattle.json.specs.Print.{escape_byte, quoted}
 use Rattle.es_types.specs.declared.row.Value.{Value}
-use Rattle.list_machine.specs.declared.search.Hit.{Hit}
+use Rattle.list_machine.specs.declared.page.request.Hit.{Hit}
 use Rattle.reply_json.specs.declared.fault.RestFault.TheVariants.{NoMemory}
 use Rattle.reply_json.specs.declared.response.BulkLine.{BulkLine}
 use Rattle.reply_json.specs.declared.response.Response.TheVariants.{Fault}

@@ -4,9 +4,9 @@ use Rattle.std.specs.Fmt.{signed_decimal}
 use Rattle.json.specs.Print.{quoted}
 use Rattle.es_types.specs.declared.row.Value.{Value}
 use Rattle.es_types.specs.declared.row.Value.TheVariants.{Key, Long, Missing}
-use Rattle.list_machine.specs.declared.search.Answer.{Answer}
-use Rattle.list_machine.specs.declared.search.Counts.{Counts}
-use Rattle.list_machine.specs.declared.search.Hit.{Hit}
+use Rattle.list_machine.specs.declared.page.request.Answer.{Answer}
+use Rattle.list_machine.specs.declared.page.request.Counts.{Counts}
+use Rattle.list_machine.specs.declared.page.request.Hit.{Hit}
 use Rattle.reply_json.specs.Ids.{id_text}
 use Rattle.reply_json.specs.Pieces.{comma_if, joined}
 

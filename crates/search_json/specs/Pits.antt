@@ -1,6 +1,7 @@
 -- Which point in time a body names, and how long it is kept from then on (Elasticsearch's reference, "Point in time API"), and
 -- which one is closed ("Close point in time").
 use Rattle.std.specs.Prelude.{ℕ, nat_le, if◌then◌else◌, List, [], ◌∷◌, Bool, true, false, Option, Some, None, option_map, option_and_then, Result, Ok, Err, codes}
+use Rattle.es_types.specs.declared.limits.TheConstants.{CONTEXT_KEEP}
 use Rattle.serde_json.specs.Data.{Data}
 use Rattle.serde_json.specs.Find.{as_str, get}
 use Rattle.es_types.specs.Times.{keep_of}
@@ -15,13 +16,9 @@ use Rattle.search_json.specs.declared.pit.Named.{Named}
 
 -- ---- times
 
--- how long a point in time is kept at most: 24 hours
-abbrev pub longest_context : ℕ
-longest_context = 86400000
-
 abbrev pub at_most_a_day : Option ℕ → Option ℕ
 at_most_a_day None = None
-at_most_a_day (Some millis) = if nat_le millis longest_context then Some millis else None
+at_most_a_day (Some millis) = if nat_le millis CONTEXT_KEEP then Some millis else None
 
 -- how long a text says that a point in time is kept, where it may be kept so long
 unfoldable pub context_keep : List ℕ → Option ℕ

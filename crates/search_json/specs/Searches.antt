@@ -4,6 +4,7 @@
 -- and `track_total_hits`.
 use Rattle.std.specs.Prelude.{ℕ, ◌+◌, ◌&&◌, ◌||◌, not, nat_lt, Bool, true, if◌then◌else◌, List, [], ◌∷◌, map, is_some, Option, Some, None, option_map, option_and_then, Result, Ok, Err, codes}
 use Rattle.std.specs.Option.{option_map_or}
+use Rattle.es_types.specs.declared.limits.TheConstants.{WINDOW}
 use Rattle.serde_json.specs.Data.{Data}
 use Rattle.serde_json.specs.Find.{as_bool, get}
 use Rattle.es_types.specs.declared.limit.LimitName.{LimitName}
@@ -12,7 +13,7 @@ use Rattle.ctx_ids.specs.declared.id.ContextId.{ContextId}
 use Rattle.es_query.specs.declared.query.Query.{Query, All}
 use Rattle.es_sort.specs.declared.sort.Keys.{Keys}
 use Rattle.slice_rule.specs.declared.slice.Slice.{Slice}
-use Rattle.list_machine.specs.declared.search.SearchRequest.{SearchRequest}
+use Rattle.list_machine.specs.declared.page.request.SearchRequest.{SearchRequest}
 use Rattle.doc_json.specs.declared.fault.BodyFault.{BodyFault}
 use Rattle.doc_json.specs.declared.fault.BodyFault.TheVariants.{Limit, Shape}
 use Rattle.doc_json.specs.Indexes.{filled}
@@ -76,7 +77,7 @@ broken has_index named span keys =
     if breaks_keep named then Some KeepAlive
     else (if (if has_index then is_some named else not (is_some named)) || (is_some span.slice && not (is_some named)) then Some Pit
     else (if is_some span.after && nat_lt 0 span.from then Some From
-    else (if nat_lt 10000 (span.from + span.size) then Some Window
+    else (if nat_lt WINDOW (span.from + span.size) then Some Window
     else (if breaks_slice span.slice then Some SliceLimit
     else (if breaks_sort (is_some named) keys then Some Sort else None)))))
 

@@ -3,6 +3,7 @@
 use Rattle.std.specs.Prelude.{ℕ, ◌||◌, nat_le, nat_lt, Bool, false, if◌then◌else◌, List, [], ◌∷◌, Option, Some, None, option_map, option_and_then, codes}
 use Rattle.serde_json.specs.Data.{Data}
 use Rattle.serde_json.specs.Find.{get}
+use Rattle.slice_rule.specs.declared.slice.TheConstants.{LEAST_SLICES, MOST_SLICES}
 use Rattle.slice_rule.specs.declared.slice.Slice.{Slice}
 use Rattle.doc_json.specs.Json.{is_form}
 use Rattle.search_json.specs.Values.{small_of}
@@ -31,4 +32,4 @@ slice_of value = slice_at (get (codes "slice") value)
 -- there are 2 to 1,024 slices, numbered from 0
 abbrev pub breaks_slice : Option Slice → Bool
 breaks_slice None = false
-breaks_slice (Some slice) = nat_lt slice.max 2 || (nat_lt 1024 slice.max || nat_le slice.max slice.id)
+breaks_slice (Some slice) = nat_lt slice.max LEAST_SLICES || (nat_lt MOST_SLICES slice.max || nat_le slice.max slice.id)

@@ -6,12 +6,9 @@ ghost use Rattle.search_json.specs.Pits.{asked_keep, breaks_keep, closed_in, con
 
 use ctx_ids::ContextId;
 use doc_json::{BodyFault, is_form, read_data};
-use es_types::{Fail, KeepAlive};
+use es_types::{CONTEXT_KEEP, Fail, KeepAlive};
 use serde_json::Value;
 use std::alloc::Global;
-
-/// How long a point in time is kept at most, in milliseconds: 24 hours.
-const LONGEST: u64 = 86_400_000;
 
 /// How long a body asks that a point in time is kept.
 #[derive(Clone, Copy)]
@@ -35,7 +32,7 @@ pub fn context_keep(text: &str) -> Option<KeepAlive>
     ensures { result ≡ context_keep text.now }
 {
     match KeepAlive::read(text.as_bytes()) {
-        Ok(keep) if keep.millis() <= LONGEST => Some(keep),
+        Ok(keep) if keep.millis() <= CONTEXT_KEEP => Some(keep),
         _ => None,
     }
 }

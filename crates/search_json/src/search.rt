@@ -1,4 +1,5 @@
 ghost use Rattle.std.specs.Prelude.{◌≡◌, ◌+◌, ◌≤◌, IfNone, IfOk, IfSome, length, option_map};
+ghost use Rattle.es_types.specs.declared.limits.TheConstants.{MOST_BATCH};
 ghost use Rattle.serde_json.specs.View.{view};
 ghost use Rattle.es_types.specs.Fail.{Answers};
 ghost use Rattle.slice_rule.specs.Parts.{IsSlice};
@@ -15,17 +16,11 @@ use ctx_ids::ContextId;
 use doc_json::{BodyFault, filled, is_form, read_data};
 use es_query::Query;
 use es_sort::{Keys, SortSpec};
-use es_types::{Fail, Items, KeepAlive, LimitName, NoMemory};
+use es_types::{Fail, Items, KeepAlive, LimitName, NoMemory, USUAL_SIZE, WINDOW};
 use list_machine::SearchRequest;
 use serde_json::Value;
 use slice_rule::Slice;
 use std::alloc::Global;
-
-/// The most hits that a search may leave out and ask for together.
-const WINDOW_LIMIT: u64 = 10_000;
-
-/// How many hits a search gets that doesn't say it.
-const USUAL_SIZE: u32 = 10;
 
 /// How many hits a search leaves out, how many it wants, behind which values, and of which slice.
 #[derive(Drop)]
@@ -62,7 +57,7 @@ pub fn read_search(
     batch: u32,
 ) -> Result<SearchBody, Fail<BodyFault>>
     requires batch_least { 2 ≤ batch }
-    requires batch_most { batch ≤ 1024 }
+    requires batch_most { batch ≤ MOST_BATCH }
     ensures read { Answers result (search_of has_index batch body.now) }
     ensures within { IfOk result (λ it. IsWithinLimits it.request) }
 {
@@ -80,7 +75,7 @@ fn judged(
     value: &Value,
 ) -> Result<SearchBody, Fail<BodyFault>>
     requires batch_least { 2 ≤ batch }
-    requires batch_most { batch ≤ 1024 }
+    requires batch_most { batch ≤ MOST_BATCH }
     ensures judged { Answers result (judged has_index batch (view value.now)) }
     ensures within { IfOk result (λ it. IsWithinLimits it.request) }
 {
@@ -102,7 +97,7 @@ fn asked(
     value: &Value,
 ) -> Result<SearchBody, Fail<BodyFault>>
     requires batch_least { 2 ≤ batch }
-    requires batch_most { batch ≤ 1024 }
+    requires batch_most { batch ≤ MOST_BATCH }
     ensures asked { Answers result (asked has_index named batch (view value.now)) }
     ensures within { IfOk result (λ it. IsWithinLimits it.request) }
 {
@@ -129,7 +124,7 @@ fn limited(
     query: Query,
 ) -> Result<SearchBody, Fail<BodyFault>>
     requires batch_least { 2 ≤ batch }
-    requires batch_most { batch ≤ 1024 }
+    requires batch_most { batch ≤ MOST_BATCH }
     ensures limited { Answers result (limited has_index named batch span keys.items query) }
     ensures within { IfOk result (λ it. IsWithinLimits it.request) }
 {
@@ -189,7 +184,7 @@ fn broken(
     keys: &[NamedKey],
 ) -> Option<LimitName>
     ensures first { result ≡ broken has_index named span.now keys.now }
-    ensures window { IfNone result (span.now.from + span.now.size ≤ 10000) }
+    ensures window { IfNone result (span.now.from + span.now.size ≤ WINDOW) }
     ensures slice { IfNone result (IfSome span.now.slice IsSlice) }
     ensures keys { IfNone result (length keys.now ≤ 64) }
 {
@@ -203,7 +198,7 @@ fn broken(
     if span.after.is_some() && span.from > 0 {
         return Some(LimitName::From);
     }
-    if span.from as u64 + span.size as u64 > WINDOW_LIMIT {
+    if span.from as u64 + span.size as u64 > WINDOW {
         return Some(LimitName::Window);
     }
     if breaks_slice(span.slice) {

@@ -6,7 +6,7 @@ ghost use Rattle.search_json.specs.Sorts.{breaks_sort, falls, is_barred, key_at,
 use crate::value::only_of;
 use doc_json::is_form;
 use es_sort::{SortBy, SortKey};
-use es_types::{NoMemory, Text};
+use es_types::{NoMemory, SORT_KEYS, Text};
 use serde_json::Value;
 use std::alloc::Global;
 
@@ -17,9 +17,6 @@ pub(crate) struct NamedKey {
     pub down: bool,
     pub missing_first: bool,
 }
-
-/// As many keys as a sort may have.
-const KEY_LIMIT: usize = 64;
 
 // ---- one key
 
@@ -173,7 +170,7 @@ fn has_barred(in_pit: bool, keys: &[NamedKey]) -> bool
 pub(crate) fn breaks_sort(in_pit: bool, keys: &[NamedKey]) -> bool
     ensures { result ≡ breaks_sort in_pit keys.now }
 {
-    keys.len() > KEY_LIMIT || has_barred(in_pit, keys)
+    keys.len() > SORT_KEYS || has_barred(in_pit, keys)
 }
 
 fn sort_by(name: Text) -> SortBy

@@ -5,6 +5,7 @@ use Rattle.std.proofs.Math.Nat.{mod-eq_of_lt}
 use Rattle.std.proofs.lemmas.Bool.Decides.{nat_tests}
 use Rattle.std.proofs.lemmas.List.Folds.{list_any_at}
 use Rattle.std.proofs.lemmas.List.FromFn.{get_or-range_with_len, length-range_with_len}
+use Rattle.slice_rule.specs.declared.slice.TheConstants.{MOST_SLICES}
 use Rattle.slice_rule.specs.declared.cover.Cover.{Cover}
 use Rattle.slice_rule.specs.declared.cover.Cover.TheVariants.{None, All, Part}
 use Rattle.slice_rule.specs.Parts.{IsFine, covers, first_ranks, has, is_none, part}
@@ -34,11 +35,11 @@ has_first : (j c : ℕ) → j < c → has (Part j c) j ≡ true
 has_first j c within = let least : j % c ≡ j = mod-eq_of_lt within in grind (arith, nat_tests)
 
 module _ (max shards shard id : ℕ) where
-  covered : (cover : Cover) (rank : ℕ) → rank < 1024 → has cover rank ≡ true → has cover rank ≡ (part max shards shard rank == id) → false ≡ not (covers max shards shard id)
-  covered cover rank within it is = sym (ap not (one_passes (λ k. part max shards shard k == id) 1024 rank within (sym is ∙ it)))
+  covered : (cover : Cover) (rank : ℕ) → rank < MOST_SLICES → has cover rank ≡ true → has cover rank ≡ (part max shards shard rank == id) → false ≡ not (covers max shards shard id)
+  covered cover rank within it is = sym (ap not (one_passes (λ k. part max shards shard k == id) MOST_SLICES rank within (sym is ∙ it)))
 
   -- what has exactly the slice's ranks is None where none of the first is the slice's
   pub none_tells : (cover : Cover) → IsFine cover → ((rank : ℕ) → has cover rank ≡ (part max shards shard rank == id)) → is_none cover ≡ not (covers max shards shard id)
-  none_tells None fine is = sym (ap not (none_passes (λ k. part max shards shard k == id) (λ k. sym (is k)) (first_ranks 1024)))
+  none_tells None fine is = sym (ap not (none_passes (λ k. part max shards shard k == id) (λ k. sym (is k)) (first_ranks MOST_SLICES)))
   none_tells All fine is = covered All 0 (omega arith) refl (is 0)
   none_tells (Part j c) fine is = covered (Part j c) j (omega arith) (has_first j c (omega arith)) (is j)

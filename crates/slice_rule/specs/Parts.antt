@@ -3,14 +3,15 @@
 -- search results", on search slicing). How they are laid there is this service's own rule.
 use Rattle.std.specs.Prelude.{◌≤◌, ◌<◌, ℕ, ◌+◌, ◌*◌, ◌/◌, ◌%◌, nat_le, nat_lt, Bool, true, false, ◌==◌, ◌&&◌, if◌then◌else◌, List}
 use Rattle.std.specs.List.{list_any, range_with_len}
+use Rattle.slice_rule.specs.declared.slice.TheConstants.{LEAST_SLICES, MOST_SLICES}
 use Rattle.slice_rule.specs.declared.cover.Cover.{Cover}
 use Rattle.slice_rule.specs.declared.cover.Cover.TheVariants.{None, All, Part}
 use Rattle.slice_rule.specs.declared.slice.Slice.{Slice}
 
--- a slice that there can be: one of 2 to 1,024
+-- a slice that there can be
 pub record IsSlice (slice : Slice) : Type 0 where
-  pub some : 2 ≤ slice.max
-  pub few : slice.max ≤ 1024
+  pub some : LEAST_SLICES ≤ slice.max
+  pub few : slice.max ≤ MOST_SLICES
   pub within : slice.id < slice.max
 
 -- how many slices share a shard, where there are at least as many slices as shards
@@ -27,7 +28,7 @@ first_ranks n = range_with_len 0 n
 
 -- whether a slice covers a shard: some rank of 0 to 1,023 has it as its part
 abbrev pub covers : ℕ → ℕ → ℕ → ℕ → Bool
-covers max shards shard id = list_any (λ rank. part max shards shard rank == id) (first_ranks 1024)
+covers max shards shard id = list_any (λ rank. part max shards shard rank == id) (first_ranks MOST_SLICES)
 
 -- which ranks of a shard a cover has. Divided by 0, none leaves anything
 abbrev pub has : Cover → ℕ → Bool
@@ -45,4 +46,4 @@ is_none (Part j c) = false
 abbrev pub IsFine : Cover → Type 0
 IsFine None = Unit {0}
 IsFine All = Unit {0}
-IsFine (Part j c) = (2 ≤ c) × (c ≤ 1024) × (j + 1 ≤ c)
+IsFine (Part j c) = (2 ≤ c) × (c ≤ MOST_SLICES) × (j + 1 ≤ c)

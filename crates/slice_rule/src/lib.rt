@@ -10,4 +10,4 @@ mod slice;
 pub use cover::{Cover, has};
 pub use law::each_place_has_a_slice;
 pub use rule::part;
-pub use slice::{BadSlice, Slice};
+pub use slice::{BadSlice, LEAST_SLICES, MOST_SLICES, Slice};

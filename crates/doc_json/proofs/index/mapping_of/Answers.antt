@@ -5,8 +5,8 @@ use Rattle.doc_json.specs.Indexes.{are_named}
 use Rattle.doc_json.proofs.Fields.{is_a_mapping, mapped_fields, too_many}
 use Rattle.doc_json.proofs.index.mapping_of.Goals as goal
 
-pub returns-then-len-gt-FIELD_LIMIT : goal.returns-then-len-gt-FIELD_LIMIT
-returns-then-len-gt-FIELD_LIMIT c = sym (too_many c.args.members.now.entries (omega arith))
+pub returns-then-len-gt-MAPPING_FIELDS : goal.returns-then-len-gt-MAPPING_FIELDS
+returns-then-len-gt-MAPPING_FIELDS c = sym (too_many c.args.members.now.entries (omega arith))
 
 -- the names are in order, since the keys are
 pub unreachable-requires : goal.unreachable-requires

@@ -1,13 +1,13 @@
 use Rattle.std.proofs.Common.{◌≡◌, ◌-◌, ◌+◌, ◌≤◌, List, ℕ, length, take, drop, ◌++◌, ap, ◌∙◌, arith}
 use Rattle.std.proofs.lemmas.List.{length-drop, take_at}
-use Rattle.http_wire.specs.Requests.{connection_limit}
-use Rattle.http_wire.specs.Stream.{Held}
+use Rattle.es_types.specs.declared.limits.TheConstants.{CONNECTION_BYTES}
+use Rattle.http_wire.specs.Stream.{Buffered}
 use Rattle.http_wire.proofs.Flow.{ended_by_fault, read_bytes, read_ok}
 use Rattle.http_wire.proofs.buf.read_more.Goals as goal
 
-pub returns-then-buf-ge-CONNECTION_LIMIT-clause-read :
-    goal.returns-then-buf-ge-CONNECTION_LIMIT-clause-read
-returns-then-buf-ge-CONNECTION_LIMIT-clause-read g c =
+pub returns-then-buf-ge-CONNECTION_BYTES-clause-read :
+    goal.returns-then-buf-ge-CONNECTION_BYTES-clause-read
+returns-then-buf-ge-CONNECTION_BYTES-clause-read g c =
     c.probe.ensures.read c.args.buf.now (rw (← c.buf.view_is) (omega arith))
 
 pub returns-in-Ok-clause-read : goal.returns-in-Ok-clause-read
@@ -22,12 +22,12 @@ returns-in-Ok-clause-read g c =
     let step : moved ≤ s.start = c.in-Some.ensures.moved in
     let order : start ≤ end = omega (arith, step, c.buf.invariant) in
     let fits : end + count ≤ length new = c.in-Ok.ensures.within.1 in
-    let few : count ≤ connection_limit - s.taken = c.in-Ok.ensures.within.0 in
+    let few : count ≤ CONNECTION_BYTES - s.taken = c.in-Ok.ensures.within.0 in
     let front : take end new ≡ take end mid = c.in-Ok.ensures.front ∙ ap (take end) c.as_mut_slice.ensures.value in
     let wide : end - start ≡ s.end - s.start = omega (arith, step, c.buf.invariant) in
-    let room : connection_limit - s.taken ≡ c.args.buf.now.room = ap (λ (h : Held). h.room) c.buf.view_is in
+    let room : CONNECTION_BYTES - s.taken ≡ c.args.buf.now.room = ap (λ (h : Buffered). h.room) c.buf.view_is in
     let old : take (end - start) (drop start mid) ≡ c.args.buf.now.bytes
-    = ap (λ n. take n (drop start mid)) wide ∙ c.in-Some.ensures.same ∙ ap (λ (h : Held). h.bytes) c.buf.view_is in
+    = ap (λ n. take n (drop start mid)) wide ∙ c.in-Some.ensures.same ∙ ap (λ (h : Buffered). h.bytes) c.buf.view_is in
     let back = take_at new (drop (length new) mid) c.make_room.new.bytes.len (c.read_behind.auto.bytes ∙ c.as_mut_slice.ensures.len) in
     read_ok c.args.buf.now _ _ _ (drop end new) count
     (ap (λ (l : List ℕ). take ((end + count) - start) (drop start l)) back

@@ -1,11 +1,12 @@
 use Rattle.std.proofs.Common.{◌≡◌, ◌++◌, List, ℕ, length, take, sym, ap, ◌∙◌, subst, IsUtf8, arith}
 use Rattle.std.proofs.lemmas.List.{length-take-le}
+use Rattle.es_types.specs.declared.limits.TheConstants.{HEAD_BYTES}
 use Rattle.http.specs.Token.{IsToken}
 use Rattle.http_wire.specs.declared.wire.WireEnd.TheVariants.{NotBuilt}
 use Rattle.http_wire.specs.Heads.{Head, IsHead}
 use Rattle.http_wire.specs.Parts.{IsParsed, IsParsedWithin, request_at}
-use Rattle.http_wire.specs.Requests.{Begins, head_limit}
-use Rattle.http_wire.specs.Stream.{Held}
+use Rattle.http_wire.specs.Requests.{Begins}
+use Rattle.http_wire.specs.Stream.{Buffered}
 use Rattle.http_wire.proofs.Ends.{head_there}
 use Rattle.http_wire.proofs.Flow.{came_trans, ended_after, ended_refused, unchanged}
 use Rattle.http_wire.proofs.Front.{begins_at, method_is, next_err, next_some, no_memory, refused_more, short_of, target_is, text_of, token_of}
@@ -14,7 +15,7 @@ use Rattle.http_wire.proofs.wire.next_request.Goals as goal
 pub slice_bounds-head_of-end : goal.slice_bounds-head_of-end
 slice_bounds-head_of-end g c =
     let start = rw c.in-Ok-Some.field-0-is at c.in-Ok-Some.ensures.came in
-    let there = head_there head_limit c.read_head.new.buf.bytes c.in-Ok-Some.long start.1 in
+    let there = head_there HEAD_BYTES c.read_head.new.buf.bytes c.in-Ok-Some.long start.1 in
     sym (length-take-le c.in-Ok-Some.long c.held.result.now (omega (arith, there.1.1, ap length c.held.ensures)))
 
 pub returns-in_default-clause-next : goal.returns-in_default-clause-next
@@ -29,7 +30,7 @@ returns-in_default-clause-next g c =
 pub overflow_add-long : goal.overflow_add-long
 overflow_add-long g c =
     let start = rw c.in-Ok-Some.field-0-is at c.in-Ok-Some.ensures.came in
-    let there = head_there head_limit c.read_head.new.buf.bytes c.in-Ok-Some.long start.1 in
+    let there = head_there HEAD_BYTES c.read_head.new.buf.bytes c.in-Ok-Some.long start.1 in
     omega (arith, there.1.0, c.in-Some.ensures.within.body)
 
 pub read_body-requires-clause-short : goal.read_body-requires-clause-short
@@ -88,11 +89,11 @@ returns-in-Some-cut-clause-next g c =
     let request = c.in-Some-cut.request in
     let is : request ≡ request_at now.bytes n c.in-Some.head
     = c.in-Some-cut.ensures ∙ ap (λ (l : List ℕ). request_at l n c.in-Some.head) c.held-2.ensures in
-    let rest = ap (λ (h : Held). h.bytes) c.advance.ensures in
+    let rest = ap (λ (h : Buffered). h.bytes) c.advance.ensures in
     next_some c.args.buf.now now c.advance.new.self _ _ request (came_trans start.0 more)
     (λ behind. subst (λ (l : List ℕ). Begins (now.bytes ++ behind) request (l ++ behind)) (sym rest)
     (begins_at first more.taken now.bytes n c.in-Some.head more.bytes start.1 within parsed request c.in-Ok.ensures.came.1 is behind))
-    (ap (λ (h : Held). h.room) c.advance.ensures)
+    (ap (λ (h : Buffered). h.room) c.advance.ensures)
 
 pub returns-in-None-clause-next : goal.returns-in-None-clause-next
 returns-in-None-clause-next g c = no_memory c.args.buf.now _ _ _
