@@ -7,7 +7,7 @@ use Rattle.std.proofs.lemmas.List.{get_or-map, get_or_default, length-map, same_
 use Rattle.std.proofs.lemmas.List.Edits.{get_or-insert_above, get_or-insert_at, get_or-insert_below, length-insert}
 use Rattle.context_book.specs.declared.context.Context.{Context}
 use Rattle.context_book.specs.Books.{Book, Rises}
-use Rattle.context_book.specs.Calls.{kept_till, lent_by, with_one, without}
+use Rattle.context_book.specs.Calls.{lent_by, touched, with_one, without}
 use Rattle.context_book.specs.Places.{HasNumber, IsBorder}
 use Rattle.context_book.proofs.Rising.{filter_all, filter_back, filter_front, filter_none}
 
@@ -63,12 +63,12 @@ rises_map f (first ∷ rest) keeps rises i j d less within =
 -- that of the number lives longer
 pub kept_there : (contexts : List Context) (number at expiry : ℕ) → Rises contexts → HasNumber contexts number at
     → (context : Context) → context ≡ get_or contexts at context
-    → set contexts at (record context { expiry = max context.expiry expiry }) ≡ map (kept_till number expiry) contexts
+    → set contexts at (record context { expiry = max context.expiry expiry }) ≡ map (touched number expiry) contexts
 kept_there contexts number at expiry rises has context is =
     let mine : context.number ≡ number = ap (λ (it : Context). it.number) is ∙ has.same context in
     let yes_it : eqb context.number number ≡ true = grind arith in
     ap (λ b. set contexts at (cond b (record context { expiry = max context.expiry expiry }) context)) (sym yes_it)
-    ∙ map_there (kept_till number expiry) contexts number at rises has
+    ∙ map_there (touched number expiry) contexts number at rises has
     (λ other differs. let no_it : eqb other.number number ≡ false = grind arith in
     ap (λ b. cond b (record other { expiry = max other.expiry expiry }) other) no_it)
     context is
@@ -86,7 +86,7 @@ lent_there contexts number at rises has context is =
     ap (λ b. cond b (record other { owner = record other.owner { lent = other.owner.lent + 1 } }) other) no_it)
     context is
 
-pub kept_number : (number expiry : ℕ) (context : Context) → (kept_till number expiry context).number ≡ context.number
+pub kept_number : (number expiry : ℕ) (context : Context) → (touched number expiry context).number ≡ context.number
 kept_number number expiry context = elim (eqb context.number number) as
     (λ b. (cond b (record context { expiry = max context.expiry expiry }) context).number
     ≡ context.number) [ true ↦ refl | false ↦ refl ]

@@ -1,5 +1,5 @@
 -- Points in time whose numbers rise: where a number stands, and the live one of it.
-use Rattle.std.proofs.Common.{◌≡◌, ◌≢◌, ℕ, ◌+◌, ◌<◌, ◌≤◌, Bool, true, false, cond, eqb, leb, ltb, List, [], ◌∷◌, ◌++◌, zero, suc, length, take, drop, get_or, Option, Some, None, Result, Ok, Err, All, refl, sym, ap, subst, ◌∙◌, ⊎_elim, arith, take-append-drop, append-nil, length-take, length-drop, get_or-take, get_or-drop}
+use Rattle.std.proofs.Common.{◌≡◌, ◌≢◌, ℕ, ◌+◌, ◌<◌, ◌≤◌, Bool, true, false, cond, eqb, ltb, List, [], ◌∷◌, ◌++◌, zero, suc, length, take, drop, get_or, Option, Some, None, Result, Ok, Err, All, refl, sym, ap, subst, ◌∙◌, ⊎_elim, arith, take-append-drop, append-nil, length-take, length-drop, get_or-take, get_or-drop}
 use Rattle.std.specs.List.{AllWithin, find, filter, slice_get}
 use Rattle.std.specs.List.Sorted.{IsSearchInRange, IsBinarySearchResult, IsNonDecreasingBy}
 use Rattle.std.specs.Result.{result_ok}
@@ -153,22 +153,20 @@ find_there contexts number at rises has d =
 -- the one at a place is live
 pub live_there : (contexts : List Context) (number at moment : ℕ) → Rises contexts → HasNumber contexts number at
     → (context : Context) → context ≡ get_or contexts at context
-    → moment ≤ context.expiry → live_one number moment contexts ≡ slice_get contexts at
+    → lives moment context ≡ true → live_one number moment contexts ≡ slice_get contexts at
 live_there contexts number at moment rises has context is live =
-    let lives_on : leb moment context.expiry ≡ true = grind arith in
     let found : find (has_number number) contexts ≡ Some context = find_there contexts number at rises has context ∙ ap Some (sym is) in
     live_one-is number moment contexts rises
     ∙ ap (alive moment) found
-    ∙ ap (λ b. cond b (Some context) None) lives_on
+    ∙ ap (λ b. cond b (Some context) None) live
     ∙ ap Some is ∙ sym (slice_get-get_or contexts at context has.within)
 
 -- it is live no more
 pub late_there : (contexts : List Context) (number at moment : ℕ) → Rises contexts → HasNumber contexts number at
     → (context : Context) → context ≡ get_or contexts at context
-    → context.expiry < moment → live_one number moment contexts ≡ None
+    → lives moment context ≡ false → live_one number moment contexts ≡ None
 late_there contexts number at moment rises has context is late =
-    let ends : leb moment context.expiry ≡ false = grind arith in
     let found : find (has_number number) contexts ≡ Some context = find_there contexts number at rises has context ∙ ap Some (sym is) in
     live_one-is number moment contexts rises
     ∙ ap (alive moment) found
-    ∙ ap (λ b. cond b (Some context) None) ends
+    ∙ ap (λ b. cond b (Some context) None) late

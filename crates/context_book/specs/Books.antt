@@ -1,7 +1,8 @@
 -- The book of the points in time, and which of them are live.
-use Rattle.std.specs.Prelude.{ℕ, ◌<◌, ◌==◌, Bool, false, not, List, filter, find, AllPairs, Option}
+use Rattle.std.specs.Prelude.{ℕ, ◌<◌, ◌==◌, Bool, not, List, filter, find, AllPairs, Option, IfSome}
+use Rattle.es_types.specs.declared.limits.TheConstants.{MOST_ENTRIES}
 use Rattle.list_machine.specs.declared.event.Which.{Which}
-use Rattle.list_machine.specs.State.{Context as Seen, is_live}
+use Rattle.list_machine.specs.State.{Context as Seen, is_live, pit}
 use Rattle.list_machine.specs.Step.{is_closing}
 use Rattle.context_book.specs.declared.context.Context.{Context}
 
@@ -16,7 +17,7 @@ Rises contexts = AllPairs (λ (a b : Context). a.number < b.number) contexts
 
 -- a point in time as the machine has it
 abbrev pub seen : Context → Seen
-seen context = record { number = context.number; view = context.owner.body; expiry = context.expiry; closed = false }
+seen context = pit context.number context.owner.body context.expiry
 
 -- whether it is live, or is live no more
 abbrev pub lives : ℕ → Context → Bool
@@ -35,3 +36,7 @@ is_kept moment which context = not (is_closed moment which context)
 -- the live one of that number
 abbrev pub live_one : ℕ → ℕ → List Context → Option Context
 live_one number moment contexts = find (λ context. context.number == number) (filter (lives moment) contexts)
+
+-- the owner of that one, where it is there, has lent fewer passes than one may
+abbrev pub CanLend : ℕ → ℕ → List Context → Type 0
+CanLend number moment contexts = IfSome (live_one number moment contexts) (λ (context : Context). context.owner.lent < MOST_ENTRIES)

@@ -16,8 +16,8 @@ abbrev pub without : ℕ → List Context → List Context
 without number contexts = filter (λ context. not (context.number == number)) contexts
 
 -- that of the number lives no shorter than up to the expiry
-abbrev pub kept_till : ℕ → ℕ → Context → Context
-kept_till number expiry context =
+abbrev pub touched : ℕ → ℕ → Context → Context
+touched number expiry context =
     if context.number == number then record context { expiry = max context.expiry expiry } else context
 
 -- the owner of that number has lent one pass more

@@ -1,6 +1,6 @@
-ghost use Rattle.std.specs.Prelude.{◌≡◌, ◌≢◌, ◌==◌, ◌<◌, ◌^◌, ◌↔◌, ◌++◌, ◌∷◌, [], map, drop, filter, count_by, All, Some, None, IfOk, IfErr, OnOk, OnErr, OnSome, IsNone, IsErr, MatchResult, MatchOption, option_map, slice_get};
-ghost use Rattle.context_book.specs.Books.{Rises, has_ended, is_closed, is_kept, live_one, lives};
-ghost use Rattle.context_book.specs.Calls.{IsLendFault, IsWhy, kept_till, lent_by, with_one, without};
+ghost use Rattle.std.specs.Prelude.{◌≡◌, ◌≢◌, ◌==◌, ◌<◌, ◌↔◌, ◌++◌, ◌∷◌, [], map, drop, filter, count_by, All, Some, None, IfOk, IfErr, OnOk, OnErr, OnSome, IsNone, IsErr, MatchResult, MatchOption, option_map, slice_get};
+ghost use Rattle.context_book.specs.Books.{CanLend, Rises, has_ended, is_closed, is_kept, live_one, lives};
+ghost use Rattle.context_book.specs.Calls.{IsLendFault, IsWhy, lent_by, touched, with_one, without};
 
 use crate::context::{Context, LendFault, Missing, Refused, Why, owner_of};
 use crate::leaving::{Leaving, part};
@@ -96,7 +96,7 @@ impl ContextBook {
     /// The live one of that number stays live up to the expiry, or longer, as it would have been.
     pub fn touch(&mut self, number: u64, now: Moment, expiry: u64) -> Result<(), Missing>
         ensures missing { IsErr result ↔ (live_one number now self.old.contexts ≡ None) }
-        ensures ok { OnOk result (self.new ≡ record self.old { contexts = map (kept_till number expiry) self.old.contexts }) }
+        ensures ok { OnOk result (self.new ≡ record self.old { contexts = map (touched number expiry) self.old.contexts }) }
         ensures err { OnErr result (self.new ≡ self.old) }
     {
         let Some(at) = place_of_live(&self.contexts, number, now) else {
@@ -107,9 +107,9 @@ impl ContextBook {
         Ok(())
     }
 
-    /// A pass of the live one of that number. After an error nothing has changed.
+    /// A pass of the live one of that number. An error leaves the book as it was.
     pub fn lend(&mut self, number: u64, now: Moment) -> Result<Pass<View>, LendFault>
-        requires { All (λ context. context.owner.lent < 2 ^ 53) self.old.contexts }
+        requires { CanLend number now self.old.contexts }
         ensures pass { IfOk result (λ pass. MatchOption (live_one number now self.old.contexts) ⊥
             (λ context. (pass.reader ≡ context.owner.reader) × (pass.body ≡ context.owner.body))) }
         ensures lent { OnOk result (self.new ≡ record self.old { contexts = map (lent_by number) self.old.contexts }) }
@@ -124,8 +124,8 @@ impl ContextBook {
         Ok(context.owner.lend(alloc)?)
     }
 
-    /// Takes out the live ones that are named, and hands out their owners, each once. After an error, which comes
-    /// only where there are such, nothing has changed.
+    /// Takes out the live ones that are named, and hands out their owners, each once. An error comes only where there
+    /// are such, and leaves the book as it was.
     pub fn close(&mut self, which: &Which, now: Moment) -> Result<Items<Owner<View>>, NoMemory>
         ensures owners { IfOk result (λ owners. owners ≡ map (λ context. context.owner) (filter (is_closed now which.now) self.old.contexts)) }
         ensures kept { OnOk result (self.new ≡ record self.old { contexts = filter (is_kept now which.now) self.old.contexts }) }
@@ -136,8 +136,8 @@ impl ContextBook {
         Ok(Items::of(owners))
     }
 
-    /// Takes out those that are live no more, and hands out their owners, each once. After an error, which comes
-    /// only where there are such, nothing has changed.
+    /// Takes out those that are live no more, and hands out their owners, each once. An error comes only where there
+    /// are such, and leaves the book as it was.
     pub fn reap(&mut self, now: Moment) -> Result<Items<Owner<View>>, NoMemory>
         ensures owners { IfOk result (λ owners. owners ≡ map (λ context. context.owner) (filter (has_ended now) self.old.contexts)) }
         ensures kept { OnOk result (self.new ≡ record self.old { contexts = filter (lives now) self.old.contexts }) }
@@ -148,7 +148,7 @@ impl ContextBook {
         Ok(Items::of(owners))
     }
 
-    /// Takes out the live one of that number. It takes no memory.
+    /// Takes out the live one of that number. An error, which comes only where there is none, leaves the book as it was.
     pub fn remove(&mut self, number: u64, now: Moment) -> Result<Owner<View>, Missing>
         ensures owner { MatchResult result
             (λ owner. option_map (λ context. context.owner) (live_one number now self.old.contexts) ≡ Some owner)
@@ -174,7 +174,7 @@ impl ContextBook {
     }
 }
 
-/// Puts one in where its number stands. After an error nothing has changed.
+/// Puts one in where its number stands. An error leaves the list as it was.
 fn put_in(contexts: &mut Vec<Context>, context: Context) -> Result<(), Refused>
     requires rise { Rises contexts.old.items }
     requires fresh { All (λ other. other.number ≢ context.number) contexts.old.items }

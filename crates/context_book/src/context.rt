@@ -3,7 +3,7 @@ ghost use Rattle.context_book.specs.declared.context.LendFault.TheVariants.{NoMe
 
 use crate::View;
 use es_sort::Keys;
-use es_types::NoMemory;
+use es_types::{Moment, NoMemory};
 use reader_gate::Owner;
 
 /// A point in time: its number, the owner of its reader, and the last moment at which it is live, in milliseconds.
@@ -12,6 +12,17 @@ pub struct Context {
     pub number: u64,
     pub owner: Owner<View>,
     pub expiry: u64,
+}
+
+impl Context {
+    ghost use Rattle.context_book.specs.Books.{lives};
+
+    /// Whether it is live at a moment: up to its expiry, and at that too.
+    pub fn is_live(&self, now: Moment) -> bool
+        ensures { result ≡ lives now self.now }
+    {
+        now.millis() <= self.expiry
+    }
 }
 
 /// How far the pages of a scroll are known: behind so many of them, the key of the last hit, where there was one.

@@ -19,7 +19,7 @@ pub enum Leaving<'a> {
     Closed(&'a Which),
 }
 
-/// Takes those out that leave, in their order. After an error nothing has changed; where none leaves it takes no memory.
+/// Takes those out that leave, in their order. An error comes only where there are such, and leaves the list as it was.
 pub fn part(
     alloc: Global,
     contexts: &mut Vec<Context>,
@@ -80,7 +80,7 @@ fn count_leaving(contexts: &[Context], leaving: Leaving, now: Moment) -> usize
 fn leaves(context: &Context, leaving: Leaving, now: Moment) -> bool
     ensures { result ≡ leaves leaving.entry now context.now }
 {
-    let live = now.millis() <= context.expiry;
+    let live = context.is_live(now);
     match leaving {
         Leaving::Ended => !live,
         Leaving::Closed(which) => live && is_named(which, context.number),

@@ -10,8 +10,7 @@ use es_types::Moment;
 pub fn count_live(contexts: &[Context], now: Moment) -> u64
     ensures { result ≡ count_by (lives now) contexts.now }
 {
-    let now = now.millis();
-    contexts.iter().filter(|c| now <= c.expiry).count() as u64
+    contexts.iter().filter(|c| c.is_live(now)).count() as u64
 }
 
 /// The place of the live one of a number.
@@ -21,11 +20,7 @@ pub fn place_of_live(contexts: &[Context], number: u64, now: Moment) -> Option<u
 {
     let at = place_of(contexts, number)?;
     let context = &contexts[at];
-    if now.millis() <= context.expiry {
-        Some(at)
-    } else {
-        None
-    }
+    if context.is_live(now) { Some(at) } else { None }
 }
 
 /// The place of a number.

@@ -1,6 +1,6 @@
 ghost use Rattle.std.specs.Prelude.{◌≡◌, ◌≤◌, length, slice_get, option_copied, IfOk};
+ghost use Rattle.es_types.specs.declared.limits.TheConstants.{SHARD_ROWS};
 ghost use Rattle.es_query.specs.Limits.{bounds_of};
-ghost use Rattle.list_machine.specs.Step.{shard_limit};
 
 use es_query::bounds_of;
 use es_types::{Bounds, Items, Mapping, NoMemory, Row};
@@ -11,7 +11,7 @@ use std::alloc::Global;
 pub struct ShardView {
     rows: Items<Row>,
     bounds: Bounds,
-    ghost few: { length rows ≤ shard_limit },
+    ghost few: { length rows ≤ SHARD_ROWS },
 }
 
 impl ShardView {
@@ -21,7 +21,7 @@ impl ShardView {
         mapping: &Mapping,
         rows: Items<Row>,
     ) -> Result<ShardView, NoMemory>
-        requires { length rows ≤ shard_limit }
+        requires { length rows ≤ SHARD_ROWS }
         ensures rows { IfOk result (λ shard. shard.rows ≡ rows) }
         ensures bounds { IfOk result (λ shard. shard.bounds ≡ bounds_of mapping.now rows) }
     {
@@ -32,7 +32,7 @@ impl ShardView {
     /// How many rows there are.
     pub fn rows(&self) -> u64
         ensures is { result ≡ length self.now.rows }
-        ensures few { result ≤ shard_limit }
+        ensures few { result ≤ SHARD_ROWS }
     {
         self.rows.as_slice().len() as u64
     }
@@ -52,7 +52,7 @@ impl ShardView {
 
     pub fn as_slice(&self) -> &[Row]
         ensures value { result.now ≡ self.now.rows }
-        ensures few { length self.now.rows ≤ shard_limit }
+        ensures few { length self.now.rows ≤ SHARD_ROWS }
     {
         self.rows.as_slice()
     }

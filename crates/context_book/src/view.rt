@@ -1,7 +1,7 @@
 ghost use Rattle.std.specs.Prelude.{◌≡◌, ◌≤◌, length, map, IfOk};
 ghost use Rattle.std.specs.Arc.{arc_value};
-ghost use Rattle.list_machine.specs.State.{most_shards};
-ghost use Rattle.list_machine.specs.Stores.{IsCountable, bounds_of_each};
+ghost use Rattle.es_types.specs.declared.limits.TheConstants.{ALL_SHARDS};
+ghost use Rattle.list_machine.specs.Seen.Stores.{IsCountable, bounds_of_each};
 ghost use Rattle.context_book.specs.Shards.{bounds_in, rows_of_each};
 
 use crate::ShardView;
@@ -22,8 +22,8 @@ pub struct View {
 impl Model for View {
     ghost use Rattle.std.specs.Prelude.{◌≡◌, ◌≤◌, length};
     ghost use Rattle.std.specs.Arc.{arc_value};
-    ghost use Rattle.list_machine.specs.State.{most_shards};
-    ghost use Rattle.list_machine.specs.Stores.{bounds_of_each, view_over};
+    ghost use Rattle.es_types.specs.declared.limits.TheConstants.{ALL_SHARDS};
+    ghost use Rattle.list_machine.specs.Seen.Stores.{bounds_of_each, view_over};
     ghost use Rattle.list_machine.specs.Views.{View as Seen};
     ghost use Rattle.context_book.specs.Shards.{bounds_in, rows_of_each};
 
@@ -32,16 +32,16 @@ impl Model for View {
     ghost view = { λ v. view_over v.index (arc_value v.mapping) (rows_of_each v.shards) };
 
     ghost invariant = { λ v. (bounds_in v.shards ≡ bounds_of_each (arc_value v.mapping) (rows_of_each v.shards))
-        × (length v.shards ≤ most_shards) };
+        × (length v.shards ≤ ALL_SHARDS) };
 }
 
 impl View {
-    ghost use Rattle.list_machine.specs.Stores.{view_over};
+    ghost use Rattle.list_machine.specs.Seen.Stores.{view_over};
 
     /// The view of shards whose bounds are those of that mapping.
     pub fn make(index: IndexName, mapping: Arc<Mapping>, shards: Items<Arc<ShardView>>) -> View
         requires bounded { bounds_in shards ≡ bounds_of_each (arc_value mapping) (rows_of_each shards) }
-        requires few { length shards ≤ most_shards }
+        requires few { length shards ≤ ALL_SHARDS }
         ensures { result ≡ view_over index (arc_value mapping) (rows_of_each shards) }
     {
         View {

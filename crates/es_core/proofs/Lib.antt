@@ -1,4 +1,5 @@
 pub mod StandingLemmas
+pub mod ShownLemmas
 pub mod ContextLemmas
 pub mod Planned
 pub mod Lending

@@ -8,16 +8,12 @@ use Rattle.std.proofs.lemmas.List.Sums.{sum_by-cons}
 use Rattle.std.proofs.lemmas.Option.{none-some}
 use Rattle.context_book.specs.declared.context.Context.{Context as Kept}
 use Rattle.context_book.specs.Books.{Book, Rises, is_closed, live_one, seen}
-use Rattle.context_book.specs.Calls.{kept_till, lent_by}
-use Rattle.es_types.specs.declared.mapping.Field.{Field}
-use Rattle.es_types.specs.declared.row.Row.{Row}
+use Rattle.context_book.specs.Calls.{lent_by, touched}
 use Rattle.list_machine.specs.declared.event.Which.{Which}
-use Rattle.list_machine.specs.declared.search.SearchRequest.{SearchRequest}
+use Rattle.list_machine.specs.declared.page.request.SearchRequest.{SearchRequest}
 use Rattle.list_machine.specs.State.{Context}
 use Rattle.list_machine.specs.Step.{freed, is_closing, is_fit, keep_one}
-use Rattle.list_machine.specs.Stores.{view_over}
-use Rattle.list_machine.specs.Views.{View}
-use Rattle.es_core.specs.Contexts.{contexts_seen, is_answered, kept_longer, live_context}
+use Rattle.es_core.specs.Contexts.{contexts_seen, is_answered, kept_on_answer, live_context}
 use Rattle.es_core.proofs.ContextLemmas.{SeenRises, filter_map, live_seen}
 
 -- the live one, as the machine has it
@@ -30,44 +26,39 @@ none_seen number moment contexts is = live_seen number moment contexts ∙ ap (o
 
 -- where there is none nothing is kept longer
 pub missed : (moment number : ℕ) (keep : Option ℕ) (request : SearchRequest) (o : Option Context) (contexts : List Context) → o ≡ None
-    → contexts ≡ kept_longer moment number keep (is_answered request o) contexts
+    → contexts ≡ kept_on_answer moment number keep (is_answered request o) contexts
 missed moment number None request o contexts none = refl
 missed moment number (Some keep) request o contexts none = rw none refl
 
 -- what is kept longer where a search of the live one fits, or doesn't
 pub kept_behind : (moment number : ℕ) (keep : Option ℕ) (request : SearchRequest) (one : Kept) (answered : Bool) (o : Option Context) (old new : List Context)
     → o ≡ Some (seen one) → is_fit one.owner.body request ≡ answered
-    → new ≡ kept_longer moment number keep answered old → new ≡ kept_longer moment number keep (is_answered request o) old
+    → new ≡ kept_on_answer moment number keep answered old → new ≡ kept_on_answer moment number keep (is_answered request o) old
 kept_behind moment number keep request one answered o old new some says now =
-    now ∙ ap (λ (b : Bool). kept_longer moment number keep b old) (sym says ∙ sym (ap (is_answered request) some))
-
--- a test by the mapping of the view says it
-pub fits_by : (view : View) (mapping : List Field) (request : SearchRequest) (fits : Bool) → mapping ≡ view.mapping
-    → ((index : List ℕ) (shards : List (List Row)) → is_fit (view_over index mapping shards) request ≡ fits) → is_fit view request ≡ fits
-fits_by view mapping request fits same says = subst (λ (it : List Field). is_fit (view_over view.index it view.shards) request ≡ fits) same (says view.index view.shards)
+    now ∙ ap (λ (b : Bool). kept_on_answer moment number keep b old) (sym says ∙ sym (ap (is_answered request) some))
 
 -- where no search is answered nothing is kept longer
-pub kept_not : (moment number : ℕ) (keep : Option ℕ) (contexts : List Context) → contexts ≡ kept_longer moment number keep false contexts
+pub kept_not : (moment number : ℕ) (keep : Option ℕ) (contexts : List Context) → contexts ≡ kept_on_answer moment number keep false contexts
 kept_not moment number None contexts = refl
 kept_not moment number (Some keep) contexts = refl
 
 -- contexts that are kept longer, as the machine has them
-pub kept_seen : (moment number keep : ℕ) (contexts : List Kept) → contexts_seen (map (kept_till number (moment + keep)) contexts) ≡ map (keep_one moment number keep) (contexts_seen contexts)
+pub kept_seen : (moment number keep : ℕ) (contexts : List Kept) → contexts_seen (map (touched number (moment + keep)) contexts) ≡ map (keep_one moment number keep) (contexts_seen contexts)
 kept_seen moment number keep [] = refl
 kept_seen moment number keep (context ∷ contexts) =
     let rest = kept_seen moment number keep contexts in
-    elim (eqb context.number number) as (λ b. seen (cond b (record context { expiry = max context.expiry (moment + keep) }) context) ∷ contexts_seen (map (kept_till number (moment + keep)) contexts)
+    elim (eqb context.number number) as (λ b. seen (cond b (record context { expiry = max context.expiry (moment + keep) }) context) ∷ contexts_seen (map (touched number (moment + keep)) contexts)
     ≡ cond b (record (seen context) { expiry = max context.expiry (moment + keep) }) (seen context) ∷ map (keep_one moment number keep) (contexts_seen contexts))
     [ true ↦ ap (λ them. seen (record context { expiry = max context.expiry (moment + keep) }) ∷ them) rest | false ↦ ap (λ them. seen context ∷ them) rest ]
 
 -- a live one is touched
-pub touched : (number moment till keep : ℕ) (old new : Book) {E : Type 0} (r : Result (Unit {0}) E) → till ≡ moment + keep
+pub touched_book : (number moment till keep : ℕ) (old new : Book) {E : Type 0} (r : Result (Unit {0}) E) → till ≡ moment + keep
     → (IsErr r ↔ (live_one number moment old.contexts ≡ None)) → live_one number moment old.contexts ≢ None
-    → OnOk r (new ≡ record old { contexts = map (kept_till number till) old.contexts }) → new ≡ record old { contexts = map (kept_till number (moment + keep)) old.contexts }
-touched number moment till keep old new (Ok done) is missing live made =
-    let with_till : ℕ → Book = λ n. record old { contexts = map (kept_till number n) old.contexts } in
+    → OnOk r (new ≡ record old { contexts = map (touched number till) old.contexts }) → new ≡ record old { contexts = map (touched number (moment + keep)) old.contexts }
+touched_book number moment till keep old new (Ok done) is missing live made =
+    let with_till : ℕ → Book = λ n. record old { contexts = map (touched number n) old.contexts } in
     made ∙ ap with_till is
-touched number moment till keep old new (Err e) is missing live made = absurd (live (missing.0 refl))
+touched_book number moment till keep old new (Err e) is missing live made = absurd (live (missing.0 refl))
 
 -- a sum over what a function makes
 sum_map : {A B : Type 0} (f : B → ℕ) (h : A → B) (xs : List A) → sum_by f (map h xs) ≡ sum_by (λ x. f (h x)) xs
@@ -136,12 +127,12 @@ lent_book_numbers next number old new (Err e) is same below = subst (λ (it : Bo
 
 -- the numbers stay where one is kept longer
 pub kept_numbers : (next number till : ℕ) (contexts : List Kept) → All (λ (context : Kept). context.number < next) contexts
-    → All (λ (context : Kept). context.number < next) (map (kept_till number till) contexts)
+    → All (λ (context : Kept). context.number < next) (map (touched number till) contexts)
 kept_numbers next number till contexts below =
-    All-map (λ (context : Kept). context.number < next) (kept_till number till) contexts
-    (All-weaker (λ (context : Kept). context.number < next) (λ (context : Kept). (kept_till number till context).number < next) (λ context is. kept_number context is) contexts below)
+    All-map (λ (context : Kept). context.number < next) (touched number till) contexts
+    (All-weaker (λ (context : Kept). context.number < next) (λ (context : Kept). (touched number till context).number < next) (λ context is. kept_number context is) contexts below)
   where
-    kept_number : (context : Kept) → context.number < next → (kept_till number till context).number < next
+    kept_number : (context : Kept) → context.number < next → (touched number till context).number < next
     kept_number context is = elim (eqb context.number number) as (λ b. (cond b (record context { expiry = max context.expiry till }) context).number < next) [ true ↦ is | false ↦ is ]
 
 -- the numbers stay below where a book gets some of its contexts, or keeps all

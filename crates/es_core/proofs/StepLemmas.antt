@@ -13,36 +13,34 @@ use Rattle.list_machine.specs.declared.event.Reply.{Reply}
 use Rattle.list_machine.specs.declared.event.Reply.TheVariants.{Closed, Done, Missing, NoIndex, Opened, TooMany}
 use Rattle.list_machine.specs.declared.event.Which.{Which}
 use Rattle.list_machine.specs.declared.event.Target.TheVariants.{Pit}
-use Rattle.list_machine.specs.declared.search.SearchRequest.{SearchRequest}
+use Rattle.list_machine.specs.declared.page.request.SearchRequest.{SearchRequest}
 use Rattle.list_machine.specs.Rows.{Shard, last_number}
 use Rattle.list_machine.specs.Run.{IsBounded, History, PutsObject, reply_of, run, state_of}
 use Rattle.list_machine.specs.State.{Context, Index, State, index_of, is_live, live_contexts, start, view_of}
 use Rattle.list_machine.specs.Step.{at_moment, close_one, freed, happen, is_closing, is_fit, keep_longer, keep_one, open_pit, search_pit, search_reply, step}
 use Rattle.list_machine.specs.Views.{View}
-use Rattle.list_machine.specs.Stores.{IsCounted, IsCountedIndex, IsSmall as IsViewSmall}
-use Rattle.es_core.specs.declared.index.Index.{Index as Store}
+use Rattle.list_machine.specs.Changes.{Moves}
+use Rattle.list_machine.specs.Seen.Stores.{AreNumbered, IsCounted, IsCountedIndex, IsSmall as IsViewSmall, most_entries}
 use Rattle.es_core.specs.declared.node.Core.{Core}
 use Rattle.context_book.specs.declared.context.Context.{Context as Kept}
 use Rattle.es_core.specs.declared.turned.Chore.{Chore}
 use Rattle.es_core.specs.declared.turned.Chore.TheVariants.{Reap, NoteEnd}
 use Rattle.es_core.specs.declared.turned.Turned.{Turned}
 use Rattle.es_core.specs.Plans.{turned_reply}
-use Rattle.es_core.specs.Contexts.{AllLent, Lends, contexts_seen, left_by, most_lent, found, freed_where_fit, is_answered, is_opened, kept_longer, live_context, opening}
-use Rattle.context_book.specs.Books.{Book}
-use Rattle.es_core.specs.Indexes.{AllNumbered, AreNumbered, Moves}
-use Rattle.es_core.specs.Seen.{indexes_seen}
+use Rattle.es_core.specs.Contexts.{AllLent, contexts_seen, left_by, found, freed_where_fit, is_answered, is_opened, kept_on_answer, live_context, opening}
+use Rattle.context_book.specs.Books.{Book, CanLend}
+use Rattle.es_core.specs.Indexes.{AllNumbered}
 use Rattle.es_core.specs.Stands.{Rests, Stands, StandsOn}
-use Rattle.es_core.specs.Steps.{Holds, IsSame, IsSmall, Steps}
-use Rattle.es_core.proofs.IndexLemmas.{view_found, view_none}
-use Rattle.es_core.proofs.Lending.{lends_left, lends_same, lent_few, lent_next}
+use Rattle.es_core.specs.Steps.{Holds, IsSame, HasSmallNumbers, Steps}
+use Rattle.es_core.proofs.IndexLemmas.{mapped_none, mapped_some}
+use Rattle.es_core.proofs.Lending.{Lends, all_can, lends_left, lent_few, lent_next}
 use Rattle.es_core.proofs.ContextLemmas.{reaped_seen, SeenRises, alive, closed_live, filter_less, filter_swap, freed_alike, kept_alike, live_again, live_context-is}
 
 -- a step that leads to this state and this reply
 steps_to : (old new : Core) (moment : ℕ) (event : Event) (reply : Reply) (state next : State) → happen state event ≡ (next, reply) → Holds new moment next
-    → Lends old.book.contexts new.book.contexts
-    → Holds new moment (happen state event).0 × ((reply ≡ (happen state event).1) × Lends old.book.contexts new.book.contexts)
-steps_to old new moment event reply state next is holds lends =
-    (subst (λ (pair : State × Reply). Holds new moment pair.0) (sym is) holds, (sym (ap (λ (pair : State × Reply). pair.1) is), lends))
+    → Holds new moment (happen state event).0 × (reply ≡ (happen state event).1)
+steps_to old new moment event reply state next is holds =
+    (subst (λ (pair : State × Reply). Holds new moment pair.0) (sym is) holds, sym (ap (λ (pair : State × Reply). pair.1) is))
 
 -- all but the indexes are as before
 pub record IsBeside (old new : Core) : Type 0 where
@@ -51,42 +49,35 @@ pub record IsBeside (old new : Core) : Type 0 where
   pub book : new.book ≡ old.book
 
 -- the operations of the indexes have small numbers, as those of the state have
-small_indexes : (core : Core) (moment : ℕ) (state : State) → Holds core moment state → IsSmall state → AllNumbered core.indexes.items
+small_indexes : (core : Core) (moment : ℕ) (state : State) → Holds core moment state → HasSmallNumbers state → AllNumbered core.catalog
 small_indexes core moment state holds small =
-    subst (λ (indexes : List Index). All (λ (index : Index). AreNumbered index.shards) indexes) (sym holds.indexes) small.numbers
+    subst AllNumbered (sym holds.indexes) small.numbers
 
 -- an event that changes indexes alone
 moved_steps : (old new : Core) (moment : ℕ) (event : Event) (reply : Reply) → IsBeside old new
-    → (AllNumbered old.indexes.items → Moves (λ state. happen state event) old.indexes.items new.indexes.items reply) → Steps old new moment event reply
+    → (AllNumbered old.catalog → Moves (λ state. happen state event) old.catalog new.catalog reply) → Steps old new moment event reply
 moved_steps old new moment event reply beside moves state holds small few =
-    let there : happen (record state { indexes = indexes_seen old.indexes.items }) event ≡ (record state { indexes = indexes_seen new.indexes.items }, reply) =
+    let there : happen (record state { indexes = old.catalog }) event ≡ (record state { indexes = new.catalog }, reply) =
     moves (small_indexes old moment state holds small) state in
-    let here : happen state event ≡ (record state { indexes = indexes_seen new.indexes.items }, reply) =
-    subst (λ (indexes : List Index). happen (record state { indexes = indexes }) event ≡ (record state { indexes = indexes_seen new.indexes.items }, reply)) holds.indexes there in
-    steps_to old new moment event reply state (record state { indexes = indexes_seen new.indexes.items }) here (record {
+    let here : happen state event ≡ (record state { indexes = new.catalog }, reply) =
+    subst (λ (indexes : List Index). happen (record state { indexes = indexes }) event ≡ (record state { indexes = new.catalog }, reply)) holds.indexes there in
+    steps_to old new moment event reply state (record state { indexes = new.catalog }) here (record {
       limits_are = beside.limits_are ∙ holds.limits_are;
       moment_is = holds.moment_is;
       next = beside.next ∙ holds.next;
       indexes = refl;
       contexts = λ later l. ap (λ (it : Book). filter (is_live later) (contexts_seen it.contexts)) beside.book ∙ holds.contexts later l;
-    }) (lends_same old.book.contexts new.book.contexts (ap (λ (it : Book). it.contexts) beside.book))
+    })
 
 -- the same at that event
 pub moved_done : (old new : Core) (moment : ℕ) (event named : Event) (reply : Reply) → event ≡ named → IsBeside old new
-    → (AllNumbered old.indexes.items → Moves (λ state. happen state named) old.indexes.items new.indexes.items reply) → Steps old new moment event reply
+    → (AllNumbered old.catalog → Moves (λ state. happen state named) old.catalog new.catalog reply) → Steps old new moment event reply
 moved_done old new moment event named reply is beside moves =
     subst (λ (it : Event). Steps old new moment it reply) (sym is) (moved_steps old new moment named reply beside moves)
 
--- where the indexes stay, which a slice lends
-pub stayed_done : (old new : Core) (moment : ℕ) (event named : Event) (reply : Reply) → event ≡ named → IsBeside old new → (slice : List Store) → slice ≡ new.indexes.items → slice ≡ old.indexes.items
-    → (AllNumbered slice → Moves (λ state. happen state named) slice slice reply) → Steps old new moment event reply
-stayed_done old new moment event named reply is beside slice of_new of_old moves =
-    moved_done old new moment event named reply is beside
-    (subst₂ (λ (before after : List Store). AllNumbered before → Moves (λ state. happen state named) before after reply) of_old of_new moves)
-
 -- the same of a search that a call planned
 pub looked_done : (old new : Core) (moment : ℕ) (event named : Event) → event ≡ named → IsBeside old new → {E : Type 0} (r : Result Turned E)
-    → IfOk r (λ turned. Moves (λ state. happen state named) old.indexes.items new.indexes.items (turned_reply turned))
+    → IfOk r (λ turned. Moves (λ state. happen state named) old.catalog new.catalog (turned_reply turned))
     → IfOk r (λ turned. Steps old new moment event (turned_reply turned))
 looked_done old new moment event named is beside (Ok turned) moves = moved_done old new moment event named (turned_reply turned) is beside (λ _. moves)
 looked_done old new moment event named is beside (Err e) moves = tt
@@ -108,7 +99,7 @@ search_pit-is state number keep request (Some context) =
 -- what the answer of a search of that one says of the contexts
 live_found : (state : State) (number : ℕ) (keep : Option ℕ) (request : SearchRequest) (o : Option Context)
     → search_live state number keep request o
-    ≡ (record state { contexts = kept_longer state.moment number keep (is_answered request o) state.contexts }, found request o)
+    ≡ (record state { contexts = kept_on_answer state.moment number keep (is_answered request o) state.contexts }, found request o)
 live_found state number None request None = refl
 live_found state number (Some keep) request None = refl
 live_found state number None request (Some context) =
@@ -123,7 +114,7 @@ live_found state number (Some keep) request (Some context) =
 pub record IsKeptCore (old new : Core) : Type 0 where
   pub limits_are : new.limits ≡ old.limits
   pub next : new.next ≡ old.next
-  pub indexes : indexes_seen new.indexes.items ≡ indexes_seen old.indexes.items
+  pub indexes : new.catalog ≡ old.catalog
 
 -- a core whose contexts are live as those of a state, and else is as another, holds what that holds
 contexts_hold : (old new : Core) (moment : ℕ) (state : State) (contexts : List Context) → IsKeptCore old new → Holds old moment state
@@ -141,7 +132,7 @@ contexts_hold old new moment state contexts same holds alike = record {
 kept_same : (moment number : ℕ) (keep : Option ℕ) (request : SearchRequest) (o : Option Context) (xs ys : List Context) → SeenRises xs → SeenRises ys
     → live_context number moment xs ≡ o → ((later : ℕ) → moment ≤ later → filter (is_live later) xs ≡ filter (is_live later) ys)
     → (later : ℕ) → moment ≤ later
-    → filter (is_live later) (kept_longer moment number keep (is_answered request o) xs) ≡ filter (is_live later) (kept_longer moment number keep (is_answered request o) ys)
+    → filter (is_live later) (kept_on_answer moment number keep (is_answered request o) xs) ≡ filter (is_live later) (kept_on_answer moment number keep (is_answered request o) ys)
 kept_same moment number None request o xs ys rises rise is alike later from = alike later from
 kept_same moment number (Some keep) request None xs ys rises rise is alike later from = alike later from
 kept_same moment number (Some keep) request (Some one) xs ys rises rise is alike later from =
@@ -150,56 +141,55 @@ kept_same moment number (Some keep) request (Some one) xs ys rises rise is alike
 
 -- a search of a point in time keeps it longer, and changes nothing else
 search_steps : (old new : Core) (moment number : ℕ) (keep : Option ℕ) (request : SearchRequest) (reply : Reply) → IsKeptCore old new → SeenRises (contexts_seen old.book.contexts)
-    → Lends old.book.contexts new.book.contexts
-    → (AllLent most_lent old.book.contexts → reply ≡ found request (live_context number moment (contexts_seen old.book.contexts)))
-    → (AllLent most_lent old.book.contexts
-    → contexts_seen new.book.contexts ≡ kept_longer moment number keep (is_answered request (live_context number moment (contexts_seen old.book.contexts))) (contexts_seen old.book.contexts))
+    → (CanLend number moment old.book.contexts → reply ≡ found request (live_context number moment (contexts_seen old.book.contexts)))
+    → (CanLend number moment old.book.contexts
+    → contexts_seen new.book.contexts ≡ kept_on_answer moment number keep (is_answered request (live_context number moment (contexts_seen old.book.contexts))) (contexts_seen old.book.contexts))
     → Steps old new moment (Search (Pit number keep) request) reply
-search_steps old new moment number keep request reply same rises lends is now state holds small few =
+search_steps old new moment number keep request reply same rises is now state holds small few =
+    let can : CanLend number moment old.book.contexts = all_can number moment old.book.contexts few in
     let o : Option Context = live_context number moment (contexts_seen old.book.contexts) in
     let live : alive state.moment (find (λ context. eqb context.number number) state.contexts) ≡ o =
     ap (λ at. alive at (find (λ context. eqb context.number number) state.contexts)) holds.moment_is
     ∙ sym (live_context-is number moment state.contexts small.differ)
     ∙ ap (find (λ context. eqb context.number number)) (sym (holds.contexts moment (omega arith))) in
-    let next : State = record state { contexts = kept_longer moment number keep (is_answered request o) state.contexts } in
-    let made : ℕ → State × Reply = λ at. (record state { contexts = kept_longer at number keep (is_answered request o) state.contexts }, found request o) in
+    let next : State = record state { contexts = kept_on_answer moment number keep (is_answered request o) state.contexts } in
+    let made : ℕ → State × Reply = λ at. (record state { contexts = kept_on_answer at number keep (is_answered request o) state.contexts }, found request o) in
     let replied : Reply → State × Reply = λ it. (next, it) in
     steps_to old new moment (Search (Pit number keep) request) reply state next
     (search_pit-is state number keep request (find (λ context. eqb context.number number) state.contexts)
     ∙ ap (search_live state number keep request) live
     ∙ live_found state number keep request o
     ∙ ap made holds.moment_is
-    ∙ ap replied (sym (is few)))
-    (contexts_hold old new moment state (kept_longer moment number keep (is_answered request o) state.contexts) same holds
-    (λ later from. ap (filter (is_live later)) (now few)
+    ∙ ap replied (sym (is can)))
+    (contexts_hold old new moment state (kept_on_answer moment number keep (is_answered request o) state.contexts) same holds
+    (λ later from. ap (filter (is_live later)) (now can)
     ∙ kept_same moment number keep request o (contexts_seen old.book.contexts) state.contexts rises small.differ refl holds.contexts later from))
-    lends
 
 -- the same of what a call gave at that event
 pub search_done : (old new : Core) (moment : ℕ) (event : Event) (number : ℕ) (keep : Option ℕ) (request : SearchRequest) → event ≡ Search (Pit number keep) request
-    → IsKeptCore old new → SeenRises (contexts_seen old.book.contexts) → Lends old.book.contexts new.book.contexts → {E : Type 0} (r : Result Turned E)
-    → (AllLent most_lent old.book.contexts → IfOk r (λ turned. turned_reply turned ≡ found request (live_context number moment (contexts_seen old.book.contexts))))
-    → (AllLent most_lent old.book.contexts
-    → OnOk r (contexts_seen new.book.contexts ≡ kept_longer moment number keep (is_answered request (live_context number moment (contexts_seen old.book.contexts))) (contexts_seen old.book.contexts)))
+    → IsKeptCore old new → SeenRises (contexts_seen old.book.contexts) → {E : Type 0} (r : Result Turned E)
+    → (CanLend number moment old.book.contexts → IfOk r (λ turned. turned_reply turned ≡ found request (live_context number moment (contexts_seen old.book.contexts))))
+    → (CanLend number moment old.book.contexts
+    → OnOk r (contexts_seen new.book.contexts ≡ kept_on_answer moment number keep (is_answered request (live_context number moment (contexts_seen old.book.contexts))) (contexts_seen old.book.contexts)))
     → IfOk r (λ turned. Steps old new moment event (turned_reply turned))
-search_done old new moment event number keep request named same rises lends (Ok turned) is now =
-    subst (λ (it : Event). Steps old new moment it (turned_reply turned)) (sym named) (search_steps old new moment number keep request (turned_reply turned) same rises lends is now)
-search_done old new moment event number keep request named same rises lends (Err e) is now = tt
+search_done old new moment event number keep request named same rises (Ok turned) is now =
+    subst (λ (it : Event). Steps old new moment it (turned_reply turned)) (sym named) (search_steps old new moment number keep request (turned_reply turned) same rises is now)
+search_done old new moment event number keep request named same rises (Err e) is now = tt
 
 -- ---- closing
 
 -- what a closing frees can be counted
-freed_small : (moment : ℕ) (which : Which) (state : State) → IsSmall state → freed moment which state.contexts ≤ 18446744073709551615
+freed_small : (moment : ℕ) (which : Which) (state : State) → HasSmallNumbers state → freed moment which state.contexts ≤ 18446744073709551615
 freed_small moment which state small =
     let part = filter_less (is_closing moment which) (λ (context : Context). length context.view.shards) state.contexts in
     omega (arith, small.shards)
 
 -- contexts are closed
-pub close_steps : (old new : Core) (moment : ℕ) (which : Which) (count : ℕ) → IsKeptCore old new → Lends old.book.contexts new.book.contexts
+pub close_steps : (old new : Core) (moment : ℕ) (which : Which) (count : ℕ) → IsKeptCore old new
     → count ≡ freed_where_fit moment which (contexts_seen old.book.contexts)
     → contexts_seen new.book.contexts ≡ filter (λ (context : Context). not (is_closing moment which context)) (contexts_seen old.book.contexts)
     → Steps old new moment (Close which) (Closed count)
-close_steps old new moment which count same lends is now state holds small few =
+close_steps old new moment which count same is now state holds small few =
     let next : State = record state { contexts = map (close_one moment which) state.contexts } in
     let xs = contexts_seen old.book.contexts in
     let alike : freed moment which xs ≡ freed moment which state.contexts = freed_alike moment which xs state.contexts (holds.contexts moment (omega arith)) in
@@ -213,27 +203,25 @@ close_steps old new moment which count same lends is now state holds small few =
     ∙ filter_swap (is_live later) (λ (context : Context). not (is_closing moment which context)) xs
     ∙ ap (filter (λ (context : Context). not (is_closing moment which context))) (holds.contexts later from)
     ∙ sym (closed_live moment later which state.contexts)))
-    lends
 
 -- the same at that event
-pub close_done : (old new : Core) (moment : ℕ) (event : Event) (which : Which) (count : ℕ) → event ≡ Close which → IsKeptCore old new → Lends old.book.contexts new.book.contexts
+pub close_done : (old new : Core) (moment : ℕ) (event : Event) (which : Which) (count : ℕ) → event ≡ Close which → IsKeptCore old new
     → count ≡ freed_where_fit moment which (contexts_seen old.book.contexts)
     → contexts_seen new.book.contexts ≡ filter (λ (context : Context). not (is_closing moment which context)) (contexts_seen old.book.contexts)
     → Steps old new moment event (Closed count)
-close_done old new moment event which count named same lends is now =
-    subst (λ (it : Event). Steps old new moment it (Closed count)) (sym named) (close_steps old new moment which count same lends is now)
+close_done old new moment event which count named same is now =
+    subst (λ (it : Event). Steps old new moment it (Closed count)) (sym named) (close_steps old new moment which count same is now)
 
 -- ---- opening
 
 -- a point in time of an index that isn't there
 pub open_none : (old new : Core) (moment : ℕ) (name : List ℕ) (keep : ℕ) → IsKeptCore old new → new.book ≡ old.book
-    → None ≡ option_map view_of (index_of name (indexes_seen old.indexes.items)) → Steps old new moment (OpenPit name keep) NoIndex
+    → None ≡ option_map view_of (index_of name old.catalog) → Steps old new moment (OpenPit name keep) NoIndex
 open_none old new moment name keep same book none state holds small few =
     steps_to old new moment (OpenPit name keep) NoIndex state state
-    (ap (λ indexes. open_pit state keep (index_of name indexes)) (sym holds.indexes) ∙ ap (open_pit state keep) (view_none (index_of name (indexes_seen old.indexes.items)) none))
+    (ap (λ indexes. open_pit state keep (index_of name indexes)) (sym holds.indexes) ∙ ap (open_pit state keep) (mapped_none view_of (index_of name old.catalog) none))
     (contexts_hold old new moment state state.contexts same holds
     (λ later from. ap (λ (it : Book). filter (is_live later) (contexts_seen it.contexts)) book ∙ holds.contexts later from))
-    (lends_same old.book.contexts new.book.contexts (ap (λ (it : Book). it.contexts) book))
 
 -- how many contexts of the state are live
 live_count : (core : Core) (moment : ℕ) (state : State) → Holds core moment state → live_contexts state ≡ count_by (is_live moment) (contexts_seen core.book.contexts)
@@ -263,12 +251,11 @@ pub record IsOpening (old new : Core) (moment : ℕ) (view : View) (expiry : ℕ
   pub limits_are : new.limits ≡ old.limits
   pub limited : old.book.limit ≡ old.limits.pits
   pub next : new.next ≡ next_behind reply old.next
-  pub indexes : indexes_seen new.indexes.items ≡ indexes_seen old.indexes.items
+  pub indexes : new.catalog ≡ old.catalog
   pub contexts : opening moment old.next view expiry old.book.limit (contexts_seen old.book.contexts) ≡ (contexts_seen new.book.contexts, reply)
-  pub lends : Lends old.book.contexts new.book.contexts
 
 -- what the machine replies to an opening, by whether as many as may be are live
-open_is : (core : Core) (moment : ℕ) (name : List ℕ) (keep : ℕ) (index : Index) → index_of name (indexes_seen core.indexes.items) ≡ Some index
+open_is : (core : Core) (moment : ℕ) (name : List ℕ) (keep : ℕ) (index : Index) → index_of name core.catalog ≡ Some index
     → (state : State) → Holds core moment state → core.book.limit ≡ core.limits.pits
     → happen state (OpenPit name keep)
     ≡ cond {A = State × Reply} (eqb (count_by (is_live moment) (contexts_seen core.book.contexts)) core.book.limit) (state, TooMany core.book.limit) (opened state keep index, Opened core.next)
@@ -288,10 +275,10 @@ pairs a x b y is = (ap (λ (p : _ × _). p.0) is, ap (λ (p : _ × _). p.1) is)
 
 -- a point in time is opened, or refused
 pub open_steps : (old new : Core) (moment : ℕ) (name : List ℕ) (keep : ℕ) (view : View) (expiry : ℕ) (reply : Reply)
-    → Some view ≡ option_map view_of (index_of name (indexes_seen old.indexes.items)) → expiry ≡ moment + keep → IsOpening old new moment view expiry reply
+    → Some view ≡ option_map view_of (index_of name old.catalog) → expiry ≡ moment + keep → IsOpening old new moment view expiry reply
     → Steps old new moment (OpenPit name keep) reply
 open_steps old new moment name keep view expiry reply finds ends opens state holds small few =
-    let found = view_found (index_of name (indexes_seen old.indexes.items)) view finds in
+    let found = mapped_some view_of (index_of name old.catalog) view finds in
     let index : Index = found.0 in
     let cs = contexts_seen old.book.contexts in
     let is = open_is old moment name keep index found.1 state holds opens.limited in
@@ -304,8 +291,7 @@ open_steps old new moment name keep view expiry reply finds ends opens state hol
     let replied : Reply → State × Reply = λ it. (state, it) in
     steps_to old new moment (OpenPit name keep) reply state state (is ∙ ap made full ∙ ap replied both.1)
     (contexts_hold old new moment state state.contexts (record { limits_are = opens.limits_are; next = same; indexes = opens.indexes }) holds
-    (λ later from. ap (filter (is_live later)) (sym both.0) ∙ holds.contexts later from))
-    opens.lends)
+    (λ later from. ap (filter (is_live later)) (sym both.0) ∙ holds.contexts later from)))
     (λ (room : eqb (count_by (is_live moment) cs) old.book.limit ≡ false).
     let chosen : Bool → List Context × Reply = λ b. cond b (cs, TooMany old.book.limit) (cs ++ new_context old.next view expiry ∷ [], Opened old.next) in
     let both = pairs (cs ++ new_context old.next view expiry ∷ []) (contexts_seen new.book.contexts) (Opened old.next) reply (sym (ap chosen room) ∙ opens.contexts) in
@@ -324,7 +310,7 @@ open_steps old new moment name keep view expiry reply finds ends opens state hol
           ∙ filter-append (is_live later) cs (new_context old.next view expiry ∷ [])
           ∙ ap₂ (λ front it. front ++ filter (is_live later) (it ∷ [])) (holds.contexts later l) last
           ∙ sym (filter-append (is_live later) state.contexts (new_context state.next (view_of index) (state.moment + keep) ∷ []));
-    }) opens.lends)
+    }))
     (cases_Bool (eqb (count_by (is_live moment) cs) old.book.limit))
 
 -- there is no number left, which no small state has
@@ -350,15 +336,15 @@ few_shards n state counted short =
 
 -- a state behind a short history is small, at any moment
 known_small : Known → (limits : Limits) (history : History) (moment : ℕ) → All (λ (entry : Entry). IsBounded entry.event) history → length history < 9007199254740992
-    → IsSmall (at_moment (state_of limits history) moment)
+    → HasSmallNumbers (at_moment (state_of limits history) moment)
 known_small known limits history moment bounded short =
     let counted : IsCounted (length history) (state_of limits history) = known.counted limits history bounded in
     record {
-      numbers = All-weaker (IsCountedIndex (length history)) (λ (index : Index). AreNumbered index.shards)
-          (λ index numbered. All-weaker (λ (shard : Shard). last_number shard ≤ length history) (λ (shard : Shard). last_number shard < 9007199254740992) (λ shard l. omega arith) index.shards numbered.numbers)
+      numbers = All-weaker (IsCountedIndex (length history)) (λ (index : Index). AreNumbered most_entries index.shards)
+          (λ index numbered. All-weaker (λ (shard : Shard). last_number shard ≤ length history) (λ (shard : Shard). last_number shard ≤ most_entries) (λ shard l. omega arith) index.shards numbered.numbers)
           (state_of limits history).indexes counted.indexes;
       next = omega (arith, counted.next);
-      differ = counted.sound.numbers_differ;
+      differ = counted.sound.numbers_rise;
       shards = few_shards (length history) (state_of limits history) counted short;
     }
 
@@ -378,16 +364,16 @@ pub record IsMoved (old new : Core) (moment : ℕ) : Type 0 where
   pub moment_is : new.moment ≡ moment
   pub limits_are : new.limits ≡ old.limits
   pub next : new.next ≡ old.next
-  pub indexes : new.indexes ≡ old.indexes
+  pub indexes : new.catalog ≡ old.catalog
   pub book : new.book ≡ old.book
 
 -- the step of an entry makes a core stand for the history and the entry
 pub turn_stands : Known → (old stepped new : Core) (event : Event) (moment later : ℕ) (reply : Reply) → later ≡ max old.moment moment
-    → Steps old stepped later event reply → IsMoved stepped new later → PutsObject event → IsBounded event
+    → Steps old stepped later event reply → Lends old.book.contexts stepped.book.contexts → IsMoved stepped new later → PutsObject event → IsBounded event
     → (limits : Limits) (history : History) (who : ℕ) → Stands limits old history → length history < 9007199254740992
     → Stands limits new (history ++ record { who = who; moment = moment; event = event } ∷ [])
     × (reply ≡ reply_of limits history (record { who = who; moment = moment; event = event }))
-turn_stands known old stepped new event moment later reply is steps moved object bounded limits history who stands short =
+turn_stands known old stepped new event moment later reply is steps lends moved object bounded limits history who stands short =
     let entry : Entry = record { who = who; moment = moment; event = event } in
     let next : State = (step (state_of limits history) entry).0 in
     let behind : state_of limits (history ++ entry ∷ []) ≡ next = run-push (start limits) history entry in
@@ -399,16 +385,16 @@ turn_stands known old stepped new event moment later reply is steps moved object
         limits_are = moved.limits_are ∙ holds.limits_are ∙ ap (λ (it : State). it.limits) (sym behind) ∙ known.limits_are limits (history ++ entry ∷ []);
         moment = moved.moment_is ∙ sym holds.moment_is ∙ ap (λ (it : State). it.moment) (sym behind);
         next = moved.next ∙ holds.next ∙ ap (λ (it : State). it.next) (sym behind);
-        indexes = ap (λ (them : Vec Store Global). indexes_seen them.items) moved.indexes ∙ holds.indexes ∙ ap (λ (it : State). it.indexes) (sym behind);
+        indexes = moved.indexes ∙ holds.indexes ∙ ap (λ (it : State). it.indexes) (sym behind);
         contexts = λ at l.
             let from : later ≤ at = omega (arith, holds.moment_is, ap (λ (it : State). it.moment) behind) in
             ap (λ (it : Book). filter (is_live at) (contexts_seen it.contexts)) moved.book ∙ holds.contexts at from ∙ ap (λ (it : State). filter (is_live at) it.contexts) (sym behind);
         lent = subst (λ (it : Book). AllLent (length (history ++ entry ∷ [])) it.contexts) (sym moved.book)
-            (lent_next (length history) (length (history ++ entry ∷ [])) old.book.contexts stepped.book.contexts short (length-append history (entry ∷ [])) done.1.1 stands.lent);
+            (lent_next (length history) (length (history ++ entry ∷ [])) old.book.contexts stepped.book.contexts (length-append history (entry ∷ [])) lends stands.lent);
         objects = All-push (λ (it : Entry). PutsObject it.event) history entry stands.objects object;
         bounded = All-push (λ (it : Entry). IsBounded it.event) history entry stands.bounded bounded;
       },
-      done.1.0,
+      done.1,
     )
 
 -- a core that is seen as before stands for what it stood for
@@ -427,13 +413,11 @@ same_stands old new same limits history stands = record {
 -- ---- quiets
 
 -- a quiet changes nothing that a state says, and what is live no more may go
-quiet_steps : (old new : Core) (moment : ℕ) → IsKeptCore old new → Lends old.book.contexts new.book.contexts
+quiet_steps : (old new : Core) (moment : ℕ) → IsKeptCore old new
     → ((later : ℕ) → moment ≤ later → filter (is_live later) (contexts_seen new.book.contexts) ≡ filter (is_live later) (contexts_seen old.book.contexts))
     → Steps old new moment Quiet Done
-quiet_steps old new moment same lends alike state holds small few = (
-  contexts_hold old new moment state state.contexts same holds (λ later from. alike later from ∙ holds.contexts later from),
-  (refl, lends),
-)
+quiet_steps old new moment same alike state holds small few =
+    (contexts_hold old new moment state state.contexts same holds (λ later from. alike later from ∙ holds.contexts later from), refl)
 
 -- what is live behind a chore is what was live
 left_alike : (chore : Chore) (moment later : ℕ) (contexts : List Kept) → moment ≤ later
@@ -448,6 +432,6 @@ pub quiet_rests : Known → (old new : Core) (chore : Chore) (moment later : ℕ
 quiet_rests known old new chore moment later is same moved now limits history who stands short =
     let contexts : new.book.contexts ≡ left_by chore later old.book.contexts = ap (λ (it : Book). it.contexts) now in
     (turn_stands known old new new Quiet moment later Done is
-    (quiet_steps old new later same (subst (Lends old.book.contexts) (sym contexts) (lends_left chore later old.book.contexts))
-    (λ at from. ap (λ them. filter (is_live at) (contexts_seen them)) contexts ∙ left_alike chore later at old.book.contexts from))
+    (quiet_steps old new later same (λ at from. ap (λ them. filter (is_live at) (contexts_seen them)) contexts ∙ left_alike chore later at old.book.contexts from))
+    (subst (Lends old.book.contexts) (sym contexts) (lends_left chore later old.book.contexts))
     (record { moment_is = moved; limits_are = refl; next = refl; indexes = refl; book = refl }) tt tt limits history who stands short).0

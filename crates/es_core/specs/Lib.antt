@@ -1,5 +1,4 @@
-pub mod Seen
-pub mod Standing
+pub mod Shards
 pub mod Indexes
 pub mod Contexts
 pub mod Plans

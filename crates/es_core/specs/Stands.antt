@@ -1,5 +1,6 @@
 -- The history that a core stands for.
-use Rattle.std.specs.Prelude.{◌≡◌, ℕ, ◌<◌, ◌≤◌, [], ◌∷◌, ◌++◌, length, map, filter, All}
+use Rattle.std.specs.Prelude.{◌≡◌, ℕ, ◌<◌, ◌≤◌, [], ◌∷◌, ◌++◌, length, filter, All}
+use Rattle.es_types.specs.declared.limits.TheConstants.{MOST_ENTRIES}
 use Rattle.list_machine.specs.declared.event.Entry.{Entry}
 use Rattle.list_machine.specs.declared.event.Event.{Event}
 use Rattle.list_machine.specs.declared.event.Event.TheVariants.{Quiet}
@@ -10,16 +11,15 @@ use Rattle.es_core.specs.declared.node.Core.{Core}
 use Rattle.es_core.specs.declared.turned.Turned.{Turned}
 use Rattle.es_core.specs.Contexts.{AllLent, contexts_seen}
 use Rattle.es_core.specs.Plans.{turned_reply}
-use Rattle.es_core.specs.Seen.{index_seen}
 
 -- The core stands for the state that the history leads to: its indexes, next number, moment and limits are those of
 -- the state, and so are the contexts that are live at its moment or at a later one. Those that are live no more may be gone. Each
--- owner has lent fewer passes than there are entries.
+-- owner has lent at most as many passes as there are entries.
 pub record Stands (limits : Limits) (core : Core) (history : History) : Type 0 where
   pub limits_are : core.limits ≡ limits
   pub moment : core.moment ≡ (state_of limits history).moment
   pub next : core.next ≡ (state_of limits history).next
-  pub indexes : map index_seen core.indexes.items ≡ (state_of limits history).indexes
+  pub indexes : core.catalog ≡ (state_of limits history).indexes
   pub contexts : (moment : ℕ) → (state_of limits history).moment ≤ moment
       → filter (is_live moment) (contexts_seen core.book.contexts) ≡ filter (is_live moment) (state_of limits history).contexts
   pub lent : AllLent (length history) core.book.contexts
@@ -30,14 +30,14 @@ pub record Stands (limits : Limits) (core : Core) (history : History) : Type 0 w
 -- and what it answers, at once or by its plan, is the machine's reply behind that history.
 abbrev pub Turns : Core → Core → Event → ℕ → Turned → Type 0
 Turns old new event moment turned =
-    (limits : Limits) (history : History) (who : ℕ) → Stands limits old history → length history < 9007199254740992
+    (limits : Limits) (history : History) (who : ℕ) → Stands limits old history → length history < MOST_ENTRIES
     → Stands limits new (history ++ record { who = who; moment = moment; event = event } ∷ [])
     × (turned_reply turned ≡ reply_of limits history (record { who = who; moment = moment; event = event }))
 
 -- the same of a Quiet, which answers nothing
 abbrev pub Rests : Core → Core → ℕ → Type 0
 Rests old new moment =
-    (limits : Limits) (history : History) (who : ℕ) → Stands limits old history → length history < 9007199254740992
+    (limits : Limits) (history : History) (who : ℕ) → Stands limits old history → length history < MOST_ENTRIES
     → Stands limits new (history ++ record { who = who; moment = moment; event = Quiet } ∷ [])
 
 -- nothing has changed: the core stands for what it stood for

@@ -1,15 +1,18 @@
-ghost use Rattle.std.specs.Prelude.{◌≡◌, ◌≤◌, length, map, replicate, IfOk, IfSome, IsSome, OnOk, OnErr};
+ghost use Rattle.std.specs.Prelude.{◌≡◌, ◌≤◌, length, map, replicate, slice_get, All, IfOk, IsSome, OnOk, OnErr, None};
 ghost use Rattle.std.specs.Arc.{arc_value};
-ghost use Rattle.list_machine.specs.State.{most_shards, view_of};
-ghost use Rattle.list_machine.specs.Stores.{view_over};
 ghost use Rattle.std.proofs.Props.{props};
+ghost use Rattle.es_types.specs.declared.limits.TheConstants.{ALL_SHARDS};
+ghost use Rattle.list_machine.specs.Changes.{publish_in, write_in, write_of};
+ghost use Rattle.list_machine.specs.Rows.{last_number};
+ghost use Rattle.list_machine.specs.Seen.Stores.{AreNumbered, most_entries};
+ghost use Rattle.list_machine.specs.State.{empty_shard, view_of};
+ghost use Rattle.es_core.specs.Shards.{AreShown, sealed, views_left};
 
-use crate::homes::{empty_shards, write_home};
 use crate::shard::Shard;
-use crate::viewing::make_view;
-use context_book::View;
-use es_types::{DocId, IndexName, Mapping, NoMemory};
-use list_machine::{Change, Reply};
+use crate::viewing::keep_views;
+use context_book::{ShardView, View};
+use es_types::{Copied, DocId, Fail, IndexName, Items, Mapping, NoMemory, Op, shard_of};
+use list_machine::{Change, Reply, make_op};
 use std::alloc::Global;
 use std::sync::Arc;
 
@@ -17,19 +20,17 @@ use std::sync::Arc;
 #[derive(Drop)]
 pub struct Index {
     pub name: IndexName,
-    pub mapping: Mapping,
+    pub mapping: Arc<Mapping>,
     pub shards: Vec<Shard>,
-    /// What readers see of it, where one was made behind the last publish.
-    view: Option<Arc<View>>,
+    /// What readers see of each shard, where one asked since its rows changed last.
+    views: Vec<Option<Arc<ShardView>>>,
     ghost some: { 1 ≤ length shards.items },
-    ghost few: { length shards.items ≤ most_shards },
-    ghost shared: { IfSome view (λ it. arc_value it ≡ view_over name mapping (map (λ shard. shard.rows) shards.items)) } by { Prim.hlevel props },
+    ghost few: { length shards.items ≤ ALL_SHARDS },
+    ghost shown: { AreShown (arc_value mapping) (map (λ shard. shard.rows) shards.items) views.items } by { Prim.hlevel props },
 }
 
 impl Index {
-    ghost use Rattle.list_machine.specs.State.{empty_shard};
-    ghost use Rattle.es_core.specs.Indexes.{AreNumbered, IsLike, publish_in, sealed, write_in};
-    ghost use Rattle.es_core.specs.Seen.{index_seen};
+    ghost use Rattle.es_core.specs.Indexes.{index_seen};
 
     /// An index with so many empty shards.
     pub fn make(
@@ -39,22 +40,24 @@ impl Index {
         shards: u32,
     ) -> Result<Index, NoMemory>
         requires some { 1 ≤ shards }
-        requires few { shards ≤ most_shards }
+        requires few { shards ≤ ALL_SHARDS }
         ensures { IfOk result (λ index. index_seen index ≡ record { name = name; mapping = mapping; shards = replicate shards empty_shard }) }
     {
         Ok(Index {
             name,
-            mapping,
+            mapping: Arc::new(alloc, mapping)?,
             shards: empty_shards(alloc, shards)?,
-            view: None,
+            views: no_views(alloc, shards)?,
         })
     }
 
     /// Adds the operation of a write to the shard of the document. After an error nothing has changed.
     pub fn write(&mut self, alloc: Global, id: &DocId, change: &Change) -> Result<Reply, NoMemory>
-        ensures like { IsLike self.old self.new }
-        ensures ok { IfOk result (λ reply. AreNumbered self.old.shards.items → write_in self.old.mapping self.old.shards.items id.now change.now ≡ (self.new.shards.items, reply)) }
-        ensures err { OnErr result (self.new.shards.items ≡ self.old.shards.items) }
+        ensures like { index_seen self.new ≡ record (index_seen self.old) { shards = self.new.shards.items } }
+        ensures ok { IfOk result (λ reply. AreNumbered most_entries self.old.shards.items
+            → write_in (arc_value self.old.mapping) self.old.shards.items id.now change.now ≡ (self.new.shards.items, reply)) }
+        ensures kept { self.new.views ≡ self.old.views }
+        ensures err { OnErr result (index_seen self.new ≡ index_seen self.old) }
     {
         write_home(alloc, &self.mapping, &mut self.shards, id, change)
     }
@@ -70,32 +73,92 @@ impl Index {
         Ok(numbers)
     }
 
-    /// Applies the operations of a shard up to a number. After an error nothing has changed.
+    /// Applies the operations of a shard up to a number. The view that is kept of it goes where one was applied, and no other view does.
+    /// After an error nothing has changed.
     pub fn publish(&mut self, alloc: Global, at: u32, upto: u64) -> Result<(), NoMemory>
-        ensures like { IsLike self.old self.new }
+        ensures like { index_seen self.new ≡ record (index_seen self.old) { shards = self.new.shards.items } }
         ensures ok { OnOk result (self.new.shards.items ≡ publish_in self.old.shards.items at upto) }
-        ensures err { OnErr result (self.new.shards.items ≡ self.old.shards.items) }
+        ensures kept { OnOk result (self.new.views.items ≡ views_left self.old.views.items at upto (slice_get self.old.shards.items at)) }
+        ensures left { OnErr result (self.new.views.items ≡ self.old.views.items) }
+        ensures err { OnErr result (index_seen self.new ≡ index_seen self.old) }
     {
         if at as usize >= self.shards.len() {
             return Ok(());
         }
-        self.view = None;
-        self.shards[at as usize].publish(alloc, upto)
+        if self.shards[at as usize].publish(alloc, upto)? {
+            self.views[at as usize] = None;
+        }
+        Ok(())
     }
 
-    /// What a reader sees of the index as it is now. Readers made between two publishes share it.
+    /// What a reader sees of the index as it is now. The view of each shard is kept for the next reader.
     pub fn view(&mut self, alloc: Global) -> Result<Arc<View>, NoMemory>
-        ensures like { IsLike self.old self.new }
-        ensures same { self.new.shards.items ≡ self.old.shards.items }
+        ensures same { index_seen self.new ≡ index_seen self.old }
         ensures view { IfOk result (λ view. arc_value view ≡ view_of (index_seen self.old)) }
-        ensures kept { OnOk result (IsSome self.new.view) }
+        ensures kept { OnOk result (All (λ view. IsSome view) self.new.views.items) }
     {
-        if let Some(view) = &self.view {
-            return Arc::try_clone(view);
-        }
-        let view = make_view(alloc, &self.name, &self.mapping, &self.shards)?;
-        let view = Arc::new(alloc, view)?;
-        self.view = Some(Arc::try_clone(&view)?);
+        let shards = keep_views(alloc, &self.mapping, &self.shards, &mut self.views)?;
+        let name = self.name.copy(alloc)?;
+        let mapping = Arc::try_clone(&self.mapping)?;
+        let view = Arc::new(alloc, View::make(name, mapping, Items::of(shards)))?;
         Ok(view)
+    }
+}
+
+fn empty_shards(alloc: Global, count: u32) -> Result<Vec<Shard>, NoMemory>
+    ensures { IfOk result (λ shards. shards.items ≡ replicate count empty_shard) }
+{
+    let mut shards = Vec::new(alloc);
+    for _made in 0..count {
+        shards.push(Shard::make(alloc))?;
+    }
+    Ok(shards)
+}
+
+fn no_views(alloc: Global, count: u32) -> Result<Vec<Option<Arc<ShardView>>>, NoMemory>
+    ensures { IfOk result (λ views. views.items ≡ replicate count None) }
+{
+    let mut views = Vec::new(alloc);
+    for _made in 0..count {
+        views.push(None)?;
+    }
+    Ok(views)
+}
+
+/// Adds the operation of a write to the shard of its document, which no search sees yet.
+fn write_home(
+    alloc: Global,
+    mapping: &Mapping,
+    shards: &mut Vec<Shard>,
+    id: &DocId,
+    change: &Change,
+) -> Result<Reply, NoMemory>
+    requires some { 1 ≤ length shards.old.items }
+    requires few { length shards.old.items ≤ ALL_SHARDS }
+    ensures ok { IfOk result (λ reply. AreNumbered most_entries shards.old.items
+        → write_in mapping.now shards.old.items id.now change.now ≡ (shards.new.items, reply)) }
+    ensures many { length shards.new.items ≡ length shards.old.items }
+    ensures rows { map (λ shard. shard.rows) shards.new.items ≡ map (λ shard. shard.rows) shards.old.items }
+    ensures err { OnErr result (shards.new.items ≡ shards.old.items) }
+{
+    let op = match make_op(alloc, mapping, id, change) {
+        Ok(op) => op,
+        Err(Fail::Is(fault)) => return Ok(Reply::BadDoc(fault)),
+        Err(Fail::NoMemory) => return Err(NoMemory),
+    };
+    let home = shard_of(id, shards.len() as u32);
+    write_shard(alloc, &mut shards[home as usize], op)
+}
+
+/// Adds an operation to its shard.
+fn write_shard(alloc: Global, shard: &mut Shard, op: Op) -> Result<Reply, NoMemory>
+    ensures ok { IfOk result (λ reply. last_number shard.old ≤ most_entries → write_of shard.old op ≡ (shard.new, reply)) }
+    ensures rows { shard.new.rows ≡ shard.old.rows }
+    ensures err { OnErr result (shard.new ≡ shard.old) }
+{
+    match shard.write(alloc, op) {
+        Ok((result, seq)) => Ok(Reply::Wrote { result, seq }),
+        Err(Fail::Is(_)) => Ok(Reply::ShardFull),
+        Err(Fail::NoMemory) => Err(NoMemory),
     }
 }

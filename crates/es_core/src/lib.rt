@@ -2,19 +2,15 @@
 //! it doesn't keep (`specs/Stands.antt`).
 #![tactic(auto)]
 
+mod catalog;
 mod contexts;
-mod creating;
-mod homes;
 mod index;
 mod looking;
 mod node;
-mod places;
 mod planning;
-mod publishing;
 mod shard;
 mod turned;
 mod viewing;
-mod writing;
 
 pub use node::Core;
 pub use turned::{Brought, Chore, Gathered, Plan, Totals, Turned};

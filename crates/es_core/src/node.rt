@@ -1,19 +1,15 @@
-ghost use Rattle.std.specs.Prelude.{◌≡◌, ◌<◌, ◌^◌, ℕ, List, [], max, All, IfOk, OnOk, OnErr, bytes_eq, position};
-ghost use Rattle.std.specs.BTreeMap.{get_by_text};
+ghost use Rattle.std.specs.Prelude.{◌≡◌, ◌+◌, ◌<◌, [], max, All, IfOk, OnOk, OnErr, option_map};
+ghost use Rattle.es_types.specs.declared.limits.TheConstants.{MOST_ENTRIES};
 ghost use Rattle.es_core.specs.Contexts.{AllLent};
 
+use crate::catalog::Catalog;
 use crate::contexts::{close, do_chore, is_opened, open, search_pit};
-use crate::creating::{create, put_down};
-use crate::index::Index;
-use crate::looking::{seal, search_index, view_of};
-use crate::publishing::publish;
-use crate::writing::write;
+use crate::looking::search_index;
 use crate::{Brought, Chore, Gathered, Totals, Turned};
 use context_book::ContextBook;
-use es_types::{IndexName, KeepAlive, Mapping, Moment, NoMemory};
-use list_machine::{Event, Limits, Reply, Target, docs, sound_states};
+use es_types::{IndexName, KeepAlive, Moment, NoMemory};
+use list_machine::{Event, Limits, Reply, Target, sound_states};
 use std::alloc::Global;
-use std::collections::BTreeMap;
 
 /// The state of the service. Indexes are found by their names, and contexts by their numbers.
 #[derive(Drop)]
@@ -22,20 +18,19 @@ pub struct Core {
     limits: Limits,
     moment: Moment,
     next: u64,
-    places: BTreeMap<String, usize>,
-    indexes: Vec<Index>,
+    catalog: Catalog,
     book: ContextBook,
-    ghost placed: { (name : List ℕ) → get_by_text places name ≡ position (λ index. bytes_eq index.name name) indexes.items },
     ghost issued: { All (λ context. context.number < next) book.contexts },
     ghost limited: { book.limit ≡ limits.pits },
-    ghost few: { AllLent (2 ^ 53) book.contexts },
+    ghost few: { AllLent MOST_ENTRIES book.contexts },
 }
 
 impl Core {
     ghost use Rattle.list_machine.specs.declared.event.Event.TheVariants.{OpenPit};
     ghost use Rattle.list_machine.specs.Run.{IsBounded, PutsObject};
+    ghost use Rattle.list_machine.specs.State.{index_of, view_of as seen_of};
     ghost use Rattle.es_core.specs.Plans.{CanAnswer, HandsOut, turned_reply};
-    ghost use Rattle.es_core.specs.Contexts.{MayWant, left_by};
+    ghost use Rattle.es_core.specs.Contexts.{LeavesOpened, MayWant, TurnMayWant, left_by};
     ghost use Rattle.es_core.specs.Stands.{Rests, Stands, StandsOn, Turns};
     ghost use Rattle.es_core.specs.Steps.{IsSame, Steps};
 
@@ -43,22 +38,17 @@ impl Core {
     pub fn make(alloc: Global, limits: Limits) -> Result<Core, NoMemory>
         ensures { IfOk result (λ core. Stands limits core []) }
     {
-        let mut places = BTreeMap::new(alloc);
-        let mut indexes = Vec::new(alloc);
-        let index = Index::make(alloc, docs(alloc)?, Mapping::empty(alloc), 1)?;
-        put_down(alloc, &mut places, &mut indexes, index)?;
         Ok(Core {
             alloc,
             limits,
             moment: Moment::zero(),
             next: 1,
-            places,
-            indexes,
+            catalog: Catalog::make(alloc)?,
             book: ContextBook::make(alloc, limits.pits),
         })
     }
 
-    /// Takes the step of an entry of the history. After `NoMemory` nothing has changed.
+    /// Takes the step of an entry of the history. After `NoMemory` the core stands for what it stood for, and its book is as it was.
     pub fn turn(
         &mut self,
         event: &Event,
@@ -69,8 +59,9 @@ impl Core {
         requires bounded { IsBounded event.now }
         ensures turns { IfOk result (Turns self.old self.new event.now moment) }
         ensures runs { IfOk result CanAnswer }
-        ensures hands_out { IfOk result (HandsOut event.now (max self.old.moment moment) self.old.book.contexts self.new.book.contexts) }
+        ensures hands_out { IfOk result (HandsOut event.now (max self.old.moment moment) self.old.catalog self.old.book.contexts self.new.book.contexts) }
         ensures book { OnErr result (self.new.book ≡ self.old.book) }
+        ensures some { OnErr result (TurnMayWant event.now (max self.old.moment moment) self.old.book.contexts) }
         ensures err { OnErr result (StandsOn self.old self.new) }
     {
         sound_states();
@@ -84,55 +75,18 @@ impl Core {
         requires { IsBounded event.now }
         ensures steps { IfOk result (λ turned. Steps self.old self.new moment event.now (turned_reply turned)) }
         ensures runs { IfOk result CanAnswer }
-        ensures hands_out { IfOk result (HandsOut event.now moment self.old.book.contexts self.new.book.contexts) }
+        ensures hands_out { IfOk result (HandsOut event.now moment self.old.catalog self.old.book.contexts self.new.book.contexts) }
+        ensures some { OnErr result (TurnMayWant event.now moment self.old.book.contexts) }
         ensures err { OnErr result (IsSame self.old self.new) }
     {
         match event {
-            Event::Create {
-                index,
-                shards,
-                mapping,
-            } => Ok(Turned::Now(create(
-                self.alloc,
-                &mut self.places,
-                &mut self.indexes,
-                index,
-                *shards,
-                mapping,
-            )?)),
-            Event::Write { index, id, change } => Ok(Turned::Now(write(
-                self.alloc,
-                &self.places,
-                &mut self.indexes,
-                index,
-                id,
-                change,
-            )?)),
-            Event::Seal { index } => Ok(Turned::Now(seal(
-                self.alloc,
-                &self.places,
-                &self.indexes,
-                index,
-            )?)),
-            Event::Publish { index, shard, upto } => Ok(Turned::Now(publish(
-                self.alloc,
-                &self.places,
-                &mut self.indexes,
-                index,
-                *shard,
-                *upto,
-            )?)),
             Event::OpenPit { index, keep } => {
                 Ok(Turned::Now(self.open_pit(moment, index, keep)?))
             }
             Event::Search { target, request } => match target {
-                Target::Index(index) => search_index(
-                    self.alloc,
-                    &self.places,
-                    &mut self.indexes,
-                    index,
-                    request,
-                ),
+                Target::Index(index) => {
+                    search_index(self.alloc, &mut self.catalog, index, request)
+                }
                 Target::Pit { number, keep } => {
                     search_pit(self.alloc, &mut self.book, moment, *number, *keep, request)
                 }
@@ -142,6 +96,7 @@ impl Core {
                 Ok(Turned::Now(Reply::Closed { freed }))
             }
             Event::Quiet => Ok(Turned::Now(Reply::Done)),
+            _ => Ok(Turned::Now(self.catalog.step(event)?)),
         }
     }
 
@@ -153,6 +108,7 @@ impl Core {
         keep: &KeepAlive,
     ) -> Result<Reply, NoMemory>
         ensures steps { IfOk result (Steps self.old self.new moment (OpenPit name.now keep.now)) }
+        ensures added { IfOk result (LeavesOpened (option_map seen_of (index_of name.now self.old.catalog)) (moment + keep.now) self.old.book.contexts self.new.book.contexts) }
         ensures err { OnErr result (IsSame self.old self.new) }
     {
         let number = self.next;
@@ -160,7 +116,7 @@ impl Core {
             // No number is left, which needs a longer history than there may be.
             return Ok(Reply::Spent);
         }
-        let Some(view) = view_of(self.alloc, &self.places, &mut self.indexes, name)? else {
+        let Some(view) = self.catalog.view(name)? else {
             return Ok(Reply::NoIndex);
         };
         let expiry = moment.millis() + keep.millis();
@@ -172,7 +128,8 @@ impl Core {
     }
 
     /// Takes the step of a Quiet, and does a chore, which no reply shows: at a reaping exactly the contexts that are live no more are
-    /// let go. After `NoMemory` nothing has changed. It comes at a reaping alone, where a context is live no more.
+    /// let go. After `NoMemory`, which comes at a reaping alone, where a context is live no more, the core stands for what it stood for,
+    /// and its book is as it was.
     pub fn quiet(&mut self, chore: Chore, moment: Moment) -> Result<Gathered, NoMemory>
         ensures rests { OnOk result (Rests self.old self.new moment) }
         ensures left { OnOk result (self.new.book ≡ record self.old.book { contexts = left_by chore (max self.old.moment moment) self.old.book.contexts }) }

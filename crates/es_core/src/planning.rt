@@ -24,6 +24,7 @@ pub fn page(pass: Pass<View>, request: SearchRequest) -> Plan
         request,
         pages: 0,
         end,
+        number: 0,
     }
 }
 

@@ -1,19 +1,19 @@
 ghost use Rattle.std.specs.Prelude.{◌≡◌, ◌+◌, ◌<◌, ◌≤◌, ◌^◌, ◌-◌, ℕ, List, [], false, length, min, IfOk, OnOk, OnErr};
 ghost use Rattle.std.specs.BTreeSet.{contains_text};
+ghost use Rattle.es_types.specs.declared.limits.TheConstants.{MOST_ENTRIES};
 ghost use Rattle.list_machine.specs.Rows.{has_id, last_number as last_number_of, rows_to_come};
 ghost use Rattle.list_machine.specs.State.{id_of};
-ghost use Rattle.list_machine.specs.Step.{append_op, is_full as is_full_shard, shard_limit};
-ghost use Rattle.es_core.specs.Standing.{did, is_refused, publish_of, stands_after};
+ghost use Rattle.list_machine.specs.Step.{append_op, is_full as is_full_shard};
+ghost use Rattle.list_machine.specs.Changes.{did, publish_of};
+ghost use Rattle.list_machine.specs.Seen.Standing.{stands_after};
+ghost use Rattle.es_core.specs.Shards.{applies, is_refused};
 
-use es_types::{Fail, NoMemory, Op, Row, copy_all};
+use es_types::{Fail, NoMemory, Op, Row, SHARD_ROWS, copy_all};
 use list_machine::{Wrote, apply_ops, enter, lasts_of};
 use std::alloc::Global;
 use std::collections::BTreeSet;
 use std::marker::Model;
 use std::mem;
-
-/// As many rows and waiting operations as a shard may have.
-const SHARD_LIMIT: usize = 2_147_483_647;
 
 /// A shard has as many rows and waiting operations as it may have.
 #[derive(Drop)]
@@ -32,14 +32,14 @@ impl Model for Shard {
     ghost use Rattle.std.specs.Prelude.{◌≡◌, ◌+◌, ◌≤◌, ℕ, List, length};
     ghost use Rattle.std.specs.BTreeSet.{contains_text};
     ghost use Rattle.list_machine.specs.Rows.{Shard as Seen, apply_all, has_id};
-    ghost use Rattle.list_machine.specs.Step.{shard_limit};
+    ghost use Rattle.es_types.specs.declared.limits.TheConstants.{SHARD_ROWS};
 
     ghost Value = { Seen };
 
     ghost view = { λ s. record { base = s.base; rows = s.rows.items; pending = s.pending.items } };
 
     // The ids that stand are those of the rows to come, and the shard is not over-full.
-    ghost invariant = { λ s. ((id : List ℕ) → contains_text s.standing id ≡ has_id id (apply_all s.rows.items s.base s.pending.items)) × (length s.rows.items + length s.pending.items ≤ shard_limit) };
+    ghost invariant = { λ s. ((id : List ℕ) → contains_text s.standing id ≡ has_id id (apply_all s.rows.items s.base s.pending.items)) × (length s.rows.items + length s.pending.items ≤ SHARD_ROWS) };
 }
 
 impl Shard {
@@ -65,7 +65,7 @@ impl Shard {
     /// A copy of the rows that a search sees.
     pub fn view(&self, alloc: Global) -> Result<Vec<Row>, NoMemory>
         ensures rows { IfOk result (λ rows. rows.items ≡ self.now.rows) }
-        ensures few { IfOk result (λ rows. length rows.items ≤ shard_limit) }
+        ensures few { IfOk result (λ rows. length rows.items ≤ SHARD_ROWS) }
     {
         copy_all(alloc, &self.rows)
     }
@@ -76,7 +76,7 @@ impl Shard {
         ensures rows { self.new.rows ≡ self.old.rows }
         ensures op { OnOk result (self.new ≡ append_op self.old op) }
         ensures did { IfOk result (λ it. it.0 ≡ did op (has_id (id_of op) (rows_to_come self.old))) }
-        ensures number { last_number_of self.old < 2 ^ 53 → IfOk result (λ it. it.1 ≡ last_number_of self.old + 1) }
+        ensures number { last_number_of self.old < MOST_ENTRIES → IfOk result (λ it. it.1 ≡ last_number_of self.old + 1) }
         ensures err { OnErr result (self.new ≡ self.old) }
     {
         if self.is_full() {
@@ -90,7 +90,7 @@ impl Shard {
     fn is_full(&self) -> bool
         ensures { result ≡ is_full_shard self.now }
     {
-        self.rows.len() + self.pending.len() >= SHARD_LIMIT
+        self.rows.len() + self.pending.len() >= SHARD_ROWS
     }
 
     /// Room is made before the operation is put down, so that nothing has changed where there is none.
@@ -107,14 +107,16 @@ impl Shard {
         Ok(wrote)
     }
 
-    /// Applies the operations up to a number. A number that no operation has yet changes nothing.
+    /// Applies the operations up to a number, and says whether there were any. A number that no operation has yet changes nothing.
     /// All memory is taken before the first change.
-    pub fn publish(&mut self, alloc: Global, upto: u64) -> Result<(), NoMemory>
+    pub fn publish(&mut self, alloc: Global, upto: u64) -> Result<bool, NoMemory>
         ensures ok { OnOk result (self.new ≡ publish_of self.old upto) }
+        ensures applied { IfOk result (λ applied. applied ≡ applies self.old upto) }
+        ensures same { IfOk result (λ applied. applied ≡ false → self.new ≡ self.old) }
         ensures err { OnErr result (self.new ≡ self.old) }
     {
         if self.seal() < upto || upto <= self.base {
-            return Ok(());
+            return Ok(false);
         }
         let count = (upto - self.base) as usize;
         let lasts = lasts_of(alloc, &self.pending[..count])?;
@@ -123,7 +125,7 @@ impl Shard {
         let ops = mem::replace(&mut self.pending, waiting);
         apply_ops(&mut self.rows, self.base, ops, lasts);
         self.base = upto;
-        Ok(())
+        Ok(true)
     }
 }
 

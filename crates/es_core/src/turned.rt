@@ -8,15 +8,17 @@ pub enum Brought {
     Nothing,
 }
 
-/// What is left to do behind a turn. It has all that this takes, so that no later turn changes what it is answered.
+/// What is left to do after a turn. It has all that this takes, so that no later turn changes what it is answered.
 #[derive(Drop)]
 pub enum Plan {
-    /// A page of the view that the pass holds, behind so many pages, whose end is known so far. A search has none before it.
+    /// A page of the view that the pass holds, after so many pages, whose end is known so far, of the scroll of that number. A search has
+    /// none before it, and the number 0, which no context gets.
     Page {
         pass: Pass<View>,
         request: SearchRequest,
         pages: u64,
         end: PageEnd,
+        number: u64,
     },
 }
 

@@ -1,29 +1,53 @@
-ghost use Rattle.std.specs.Prelude.{◌≡◌, ◌≤◌, length, map, All, IfOk};
-ghost use Rattle.list_machine.specs.State.{most_shards};
-ghost use Rattle.list_machine.specs.Stores.{view_over};
+ghost use Rattle.std.specs.Prelude.{◌≡◌, map, All, IfOk, IsSome, OnOk, Some};
+ghost use Rattle.context_book.specs.Shards.{bounds_in, rows_of_each};
+ghost use Rattle.list_machine.specs.Seen.Stores.{bounds_of_each};
+ghost use Rattle.es_core.specs.Shards.{AreShown, IsShown};
 
 use crate::shard::Shard;
-use context_book::{ShardView, View};
-use es_types::{Copied, IndexName, Items, Mapping, NoMemory};
+use context_book::ShardView;
+use es_types::{Items, Mapping, NoMemory};
 use std::alloc::Global;
 use std::sync::Arc;
 
-/// What a reader sees of these shards: a copy of their rows.
-pub fn make_view(
+/// What a reader sees of each shard. A view that isn't kept yet is made, and kept for the next reader.
+pub fn keep_views(
     alloc: Global,
-    name: &IndexName,
     mapping: &Mapping,
     shards: &[Shard],
-) -> Result<View, NoMemory>
-    requires { length shards.now ≤ most_shards }
-    ensures { IfOk result (λ view. view ≡ view_over name.now mapping.now (map (λ shard. shard.rows) shards.now)) }
+    views: &mut Vec<Option<Arc<ShardView>>>,
+) -> Result<Vec<Arc<ShardView>>, NoMemory>
+    requires { AreShown mapping.now (map (λ shard. shard.rows) shards.now) views.old.items }
+    ensures shown { AreShown mapping.now (map (λ shard. shard.rows) shards.now) views.new.items }
+    ensures rows { IfOk result (λ them. rows_of_each them.items ≡ map (λ shard. shard.rows) shards.now) }
+    ensures bounds { IfOk result (λ them. bounds_in them.items ≡ bounds_of_each mapping.now (map (λ shard. shard.rows) shards.now)) }
+    ensures kept { OnOk result (All (λ view. IsSome view) views.new.items) }
 {
-    let mut views = Vec::with_capacity(alloc, shards.len())?;
-    for shard in shards {
-        let rows = Items::of(shard.view(alloc)?);
-        views.push(Arc::new(alloc, ShardView::of_rows(alloc, mapping, rows)?)?)?;
+    let mut them = Vec::with_capacity(alloc, shards.len())?;
+    for at in 0..shards.len() {
+        let view = keep_view(alloc, mapping, &shards[at], &mut views[at])?;
+        them.push(view)?;
     }
-    let name = name.copy(alloc)?;
-    let mapping = Arc::new(alloc, mapping.copy(alloc)?)?;
-    Ok(View::make(name, mapping, Items::of(views)))
+    Ok(them)
+}
+
+/// The view of one shard: a copy of its rows, with their bounds.
+fn keep_view(
+    alloc: Global,
+    mapping: &Mapping,
+    shard: &Shard,
+    kept: &mut Option<Arc<ShardView>>,
+) -> Result<Arc<ShardView>, NoMemory>
+    requires { IsShown mapping.now shard.now.rows kept.old }
+    ensures shown { IsShown mapping.now shard.now.rows kept.new }
+    ensures view { IfOk result (λ view. IsShown mapping.now shard.now.rows (Some view)) }
+    ensures kept { OnOk result (IsSome kept.new) }
+    ensures again { IsSome kept.old → kept.new ≡ kept.old }
+{
+    if let Some(view) = kept {
+        return Arc::try_clone(view);
+    }
+    let rows = Items::of(shard.view(alloc)?);
+    let view = Arc::new(alloc, ShardView::of_rows(alloc, mapping, rows)?)?;
+    *kept = Some(Arc::try_clone(&view)?);
+    Ok(view)
 }

@@ -7,7 +7,7 @@ use Rattle.es_types.specs.declared.row.Op.{Op}
 use Rattle.es_types.specs.declared.row.Op.TheVariants.{Put, Remove}
 use Rattle.list_machine.specs.Rows.{apply, apply_all, without}
 use Rattle.list_machine.specs.State.{id_of}
-use Rattle.list_machine.specs.Lasts.{is_written, are_last}
+use Rattle.list_machine.specs.Seen.Lasts.{is_written, are_last}
 use Rattle.list_machine.proofs.RowLemmas.{bytes_eq-sym}
 
 -- the rows that no operation is of

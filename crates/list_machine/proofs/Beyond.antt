@@ -5,7 +5,7 @@ use Rattle.std.proofs.lemmas.List.Elements.{All-head, All-tail, filter_agree}
 use Rattle.es_sort.specs.declared.sort.Keys.{Keys}
 use Rattle.es_sort.specs.declared.sort.SortSpec.{SortSpec}
 use Rattle.list_machine.specs.Pages.{shows_place}
-use Rattle.list_machine.specs.Views.{View, Place, comes_before, is_beyond, shown_at}
+use Rattle.list_machine.specs.Views.{View, Place, comes_before, is_past, shown_at}
 use Rattle.list_machine.proofs.Ordered.{IsStrict, KeyLaws, pairs_head, pairs_tail, places_strict}
 use Rattle.list_machine.proofs.Shown.{beyond_is}
 
@@ -45,11 +45,11 @@ AreInOrder view sort places = AllPairs (λ (a b : Place). comes_before view sort
 -- beyond what is shown of a place are those that follow it
 pub beyond_place : (view : View) (sort : SortSpec) → KeyLaws → shows_place sort ≡ true
     → (front : List Place) (place : Place) (rest : List Place) → AreInOrder view sort (front ++ place ∷ rest)
-    → (after : Keys) → after.values ≡ shown_at view sort place → filter (is_beyond view sort (Some after)) (front ++ place ∷ rest) ≡ rest
+    → (after : Keys) → after.values ≡ shown_at view sort place → filter (is_past view sort (Some after)) (front ++ place ∷ rest) ≡ rest
 beyond_place view sort laws shows front place rest ordered after is =
-    filter_agree (is_beyond view sort (Some after)) (comes_before view sort place) (beyond_is view sort (laws.total sort) shows place after is) (front ++ place ∷ rest)
+    filter_agree (is_past view sort (Some after)) (comes_before view sort place) (beyond_is view sort (laws.total sort) shows place after is) (front ++ place ∷ rest)
     ∙ rest_behind (comes_before view sort) (places_strict laws view sort) front place rest ordered
 
 -- where no values are given, all places
-pub beyond_nothing : (view : View) (sort : SortSpec) (places : List Place) → filter (is_beyond view sort None) places ≡ places
-beyond_nothing view sort places = filter_all (is_beyond view sort None) places (λ k d less. refl)
+pub beyond_nothing : (view : View) (sort : SortSpec) (places : List Place) → filter (is_past view sort None) places ≡ places
+beyond_nothing view sort places = filter_all (is_past view sort None) places (λ k d less. refl)

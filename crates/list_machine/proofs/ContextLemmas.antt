@@ -4,11 +4,11 @@ use Rattle.std.specs.List.{find}
 use Rattle.std.specs.Option.{option_map}
 use Rattle.list_machine.specs.declared.event.Reply.{Reply}
 use Rattle.list_machine.specs.declared.event.Reply.TheVariants.{Missing, Opened, TooMany}
-use Rattle.list_machine.specs.declared.search.SearchRequest.{SearchRequest}
+use Rattle.list_machine.specs.declared.page.request.SearchRequest.{SearchRequest}
 use Rattle.list_machine.specs.declared.context.ContextStore.{ContextStore}
 use Rattle.list_machine.specs.State.{Index, State, context_of, is_live, live_contexts}
 use Rattle.list_machine.specs.Step.{open_pit, search_reply}
-use Rattle.list_machine.specs.Stores.{context_seen, contexts_seen, reply_at, view_seen}
+use Rattle.list_machine.specs.Seen.Stores.{context_seen, contexts_seen, reply_at, view_seen}
 use Rattle.list_machine.proofs.Moves.{opened}
 
 -- the context of a number among those that are seen

@@ -1,6 +1,6 @@
 -- A context is found by its number from its opening on, and by no search before.
 use Rattle.std.proofs.Common.{◌≡◌, ℕ, ◌+◌, ◌<◌, ◌≤◌, ◌==◌, Bool, true, false, cond, List, [], ◌∷◌, ◌++◌, length, map, Option, Some, None, All, refl, sym, ap, ap₂, ◌∙◌, arith, eq-eqb, ne_eqb}
-use Rattle.std.specs.Option.{option_or}
+use Rattle.std.specs.Option.{option_or, unwrap_or}
 use Rattle.std.proofs.lemmas.Bool.{cond-true, cond-false}
 use Rattle.std.proofs.lemmas.List.Elements.{All-head, All-tail}
 use Rattle.std.proofs.lemmas.List.Folds.{find-append}
@@ -8,11 +8,11 @@ use Rattle.es_query.specs.Fits.{fits}
 use Rattle.es_sort.specs.Fits.{sort_fits}
 use Rattle.list_machine.specs.declared.event.Reply.{Reply}
 use Rattle.list_machine.specs.declared.event.Reply.TheVariants.{Opened, Found, TooMany, Missing, BadQuery, BadSort, BadAfter}
-use Rattle.list_machine.specs.declared.search.SearchRequest.{SearchRequest}
-use Rattle.list_machine.specs.declared.search.Answer.{Answer}
-use Rattle.list_machine.specs.Views.{View, answer}
-use Rattle.list_machine.specs.State.{State, Index, Context, context_of, is_live, view_of}
-use Rattle.list_machine.specs.Step.{goes_on, is_fit, keep_longer, search_pit, search_reply}
+use Rattle.list_machine.specs.declared.page.request.SearchRequest.{SearchRequest}
+use Rattle.list_machine.specs.declared.page.request.Answer.{Answer}
+use Rattle.list_machine.specs.Views.{View, answer, mapping_at}
+use Rattle.list_machine.specs.State.{State, Index, Context, context_of, is_live, pit, view_of}
+use Rattle.list_machine.specs.Step.{after_fits_sort, is_fit, keep_longer, search_pit, search_reply}
 use Rattle.list_machine.proofs.ContextMoves.{Named, named, named_of}
 use Rattle.list_machine.proofs.Moves.{opened}
 use Rattle.list_machine.proofs.Runs.{Later}
@@ -41,18 +41,20 @@ opening_cases false state keep index number r e o =
     (same, ap (λ (r : State × Reply). r.0) e)
 
 -- the context of the next number is found behind the others
-pub found_next : (state : State) (keep : ℕ) (index : Index) → All (λ (context : Context). context.number < state.next) state.contexts → context_of state.next (opened state keep index).contexts ≡ Some (record { number = state.next; view = view_of index; expiry = state.moment + keep; closed = false })
+pub found_next : (state : State) (keep : ℕ) (index : Index) → All (λ (context : Context). context.number < state.next) state.contexts → context_of state.next (opened state keep index).contexts ≡ Some (pit state.next (view_of index) (state.moment + keep))
 found_next state keep index h =
-    let new : Context = record { number = state.next; view = view_of index; expiry = state.moment + keep; closed = false } in
+    let new : Context = pit state.next (view_of index) (state.moment + keep) in
     find-append (λ (context : Context). context.number == state.next) state.contexts (new ∷ [])
     ∙ ap (λ o. option_or o (context_of state.next (new ∷ []))) (none_above state.contexts state.next state.next (omega arith) h)
     ∙ cond-true (state.next == state.next) (Some new) None (eq-eqb state.next state.next refl)
 
--- a view that answers is one that the query, the sort and the values to go on behind fit
+-- what a search finds is the answer to a request that fits
 reply_cases : (view : View) (request : SearchRequest) (found : Answer) → search_reply view request ≡ Found found → found ≡ answer view request request.from
-reply_cases view request found e = go (fits view.mapping request.query) (sort_fits view.mapping request.sort) (goes_on view request.sort request.after) e
+reply_cases view request found e = go (fits (mapping_at view 0) request.query) (sort_fits (mapping_at view 0) request.sort) (after_fits_sort view request.sort request.after) e
   where
-    go : (query sort after : Bool) → cond {A = Reply} query (cond {A = Reply} sort (cond {A = Reply} after (Found (answer view request request.from)) BadAfter) BadSort) BadQuery ≡ Found found → found ≡ answer view request request.from
+    go : (query sort after : Bool)
+        → unwrap_or (cond query (cond sort (cond after None (Some BadAfter)) (Some BadSort)) (Some BadQuery)) (Found (answer view request request.from)) ≡ Found found
+        → found ≡ answer view request request.from
     go true true true e = cc
     go true true false e = absurd (cc)
     go true false after e = absurd (cc)

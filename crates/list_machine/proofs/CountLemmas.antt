@@ -1,7 +1,8 @@
 -- What is counted after one entry more.
-use Rattle.std.proofs.Common.{◌≡◌, ℕ, ◌+◌, ◌-◌, ◌≤◌, false, Some, inl, inr, List, [], ◌∷◌, length, slice_get, slice_set, All, bytes_eq, ap, sym, subst, arith, length-set}
+use Rattle.std.proofs.Common.{◌≡◌, ℕ, ◌+◌, ◌-◌, ◌≤◌, Some, inl, inr, List, [], ◌∷◌, length, slice_get, slice_set, All, bytes_eq, ap, sym, subst, arith, length-set}
 use Rattle.std.proofs.lemmas.List.{length-append, length-drop, length-map, length-replicate}
 use Rattle.std.proofs.lemmas.List.Elements.{All-cons, All-head, All-tail, All-map, All-nil, All-push, All-replicate, All-set, All-weaker}
+use Rattle.es_types.specs.declared.limits.TheConstants.{INDEX_SHARDS}
 use Rattle.es_types.specs.declared.mapping.Field.{Field}
 use Rattle.es_types.specs.declared.row.Op.{Op}
 use Rattle.es_types.specs.declared.row.Row.{Row}
@@ -10,9 +11,9 @@ use Rattle.list_machine.specs.declared.event.Event.{Event}
 use Rattle.list_machine.specs.declared.event.Limits.{Limits}
 use Rattle.list_machine.specs.Rows.{Shard, last_number, publish}
 use Rattle.list_machine.specs.Run.{IsBounded, History, run, state_of}
-use Rattle.list_machine.specs.State.{Context, Index, IsSoundShard, State, docs, empty_shard, start, view_of}
+use Rattle.list_machine.specs.State.{Context, Index, IsSoundShard, State, docs, empty_shard, pit, start, view_of}
 use Rattle.list_machine.specs.Step.{step}
-use Rattle.list_machine.specs.Stores.{IsCounted, IsCountedIndex, IsSmall, index_limit}
+use Rattle.list_machine.specs.Seen.Stores.{IsCounted, IsCountedIndex, IsSmall}
 use Rattle.list_machine.proofs.ShardLemmas.{publish_case}
 use Rattle.list_machine.proofs.ContextMoves.{kept_views}
 use Rattle.list_machine.proofs.Moves.{Changed, IsOpAt, MovesContexts, find_All, made, moves_indexes, slice_get_All, step_moves}
@@ -33,18 +34,18 @@ changed_numbered n Q old new (inl c) is = subst (IsNumbered (n + 1)) (sym c.3) (
 changed_numbered n Q old new (inr c) is = subst (IsNumbered (n + 1)) (sym c.2) (omega (arith, publish_numbered n old c.0 c.1 is))
 
 -- a changed shard of an index counts one entry more
-changed_index : (n : ℕ) (event : Event) (index : Index) (at : ℕ) (shard changed : Shard) → slice_get index.shards at ≡ Some shard → Changed (IsOpAt event at (length index.shards)) shard changed → IsCountedIndex n index → IsCountedIndex (n + 1) (record index { shards = slice_set index.shards at changed })
+changed_index : (n : ℕ) (event : Event) (index : Index) (at : ℕ) (shard changed : Shard) → slice_get index.shards at ≡ Some shard → Changed (IsOpAt event index.mapping at (length index.shards)) shard changed → IsCountedIndex n index → IsCountedIndex (n + 1) (record index { shards = slice_set index.shards at changed })
 changed_index n event index at shard changed has changes h =
     record {
       some = omega (arith, h.some, length-set index.shards at changed);
       few = omega (arith, h.few, length-set index.shards at changed);
       numbers = All-set (IsNumbered (n + 1)) index.shards at changed
-          (changed_numbered n (IsOpAt event at (length index.shards)) shard changed changes (slice_get_All (IsNumbered n) index.shards at shard h.numbers has))
+          (changed_numbered n (IsOpAt event index.mapping at (length index.shards)) shard changed changes (slice_get_All (IsNumbered n) index.shards at shard h.numbers has))
           (All-weaker (IsNumbered n) (IsNumbered (n + 1)) (λ it less. omega arith) index.shards h.numbers);
     }
 
 -- a new index counts, where it has a shard
-made_index : (n : ℕ) (name : List ℕ) (shards : ℕ) (mapping : List Field) → 1 ≤ shards → shards ≤ index_limit → IsCountedIndex n (made name shards mapping)
+made_index : (n : ℕ) (name : List ℕ) (shards : ℕ) (mapping : List Field) → 1 ≤ shards → shards ≤ INDEX_SHARDS → IsCountedIndex n (made name shards mapping)
 made_index n name shards mapping some few =
     record {
       some = omega (arith, length-replicate shards empty_shard);
@@ -69,7 +70,7 @@ moves_next old new (inr m) = omega (arith, m.next)
 -- and at most one more is there
 moves_many : (old new : State) → MovesContexts old new → length new.contexts ≤ length old.contexts + 1
 moves_many old new (inl m) = omega (arith, ap length m.contexts, length-map old.contexts m.to)
-moves_many old new (inr m) = omega (arith, ap length m.contexts, length-append old.contexts (record { number = old.next; view = view_of m.index; expiry = m.expiry; closed = false } ∷ []))
+moves_many old new (inr m) = omega (arith, ap length m.contexts, length-append old.contexts (pit old.next (view_of m.index) m.expiry ∷ []))
 
 -- a move keeps views small
 moves_small : (n : ℕ) (old new : State) → IsCounted n old → MovesContexts old new → All (λ (context : Context). IsSmall context.view) new.contexts
@@ -79,7 +80,7 @@ moves_small n old new h (inr m) =
     let counted = find_All (IsCountedIndex n) (λ (index : Index). bytes_eq index.name m.name) old.indexes m.index h.indexes m.there in
     let sound = find_All (λ (index : Index). All IsSoundShard index.shards) (λ (index : Index). bytes_eq index.name m.name) old.indexes m.index h.sound.shards m.there in
     subst (All (λ (context : Context). IsSmall context.view)) (sym m.contexts)
-    (All-push (λ (context : Context). IsSmall context.view) old.contexts (record { number = old.next; view = view_of m.index; expiry = m.expiry; closed = false }) h.views (view_small n m.index counted sound))
+    (All-push (λ (context : Context). IsSmall context.view) old.contexts (pit old.next (view_of m.index) m.expiry) h.views (view_small n m.index counted sound))
 
 -- a step counts one entry more
 pub IsCounted-step : (n : ℕ) (state : State) (entry : Entry) → IsBounded entry.event → IsCounted n state → IsCounted (n + 1) (step state entry).0

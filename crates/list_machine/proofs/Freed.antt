@@ -4,11 +4,12 @@ use Rattle.std.proofs.lemmas.Bool.{cond_both}
 use Rattle.std.proofs.lemmas.List.{length-map}
 use Rattle.std.proofs.lemmas.List.Elements.{All-weaker}
 use Rattle.std.proofs.lemmas.List.Sums.{sum_by-cons, sum_by-le, sum_by_more_le_part}
+use Rattle.es_types.specs.declared.limits.TheConstants.{INDEX_SHARDS}
 use Rattle.list_machine.specs.declared.context.ContextStore.{ContextStore}
 use Rattle.list_machine.specs.declared.event.Which.{Which}
 use Rattle.list_machine.specs.State.{Context}
 use Rattle.list_machine.specs.Step.{freed, is_closing}
-use Rattle.list_machine.specs.Stores.{IsSmall, context_seen, contexts_seen, index_limit, view_seen}
+use Rattle.list_machine.specs.Seen.Stores.{IsSmall, context_seen, contexts_seen, view_seen}
 use Rattle.list_machine.proofs.StoreLemmas.{All-from_map, rows_in}
 
 -- how many shards those of the contexts have that are closing, term by term
@@ -33,11 +34,11 @@ freed_is moment which (store ∷ stores) =
 
 -- as their views are small, what is freed so far and the shards of one more are not too many
 pub freed_few : (moment : ℕ) (which : Which) (stores : List ContextStore) (at : ℕ) (store : ContextStore) → at < length stores → store ≡ get_or stores at store
-    → All (λ (context : Context). IsSmall context.view) (contexts_seen stores) → freed_in moment which (take at stores) + length store.shards.items ≤ length stores * index_limit
+    → All (λ (context : Context). IsSmall context.view) (contexts_seen stores) → freed_in moment which (take at stores) + length store.shards.items ≤ length stores * INDEX_SHARDS
 freed_few moment which stores at store within is small =
     let many : ContextStore → ℕ = λ it. length it.shards.items in
-    let each : All (λ it. many it ≤ index_limit) stores =
-    All-weaker (λ (it : ContextStore). IsSmall (view_seen it)) (λ it. many it ≤ index_limit) (λ it h. omega (arith, h.few, length-map it.shards.items rows_in)) stores
+    let each : All (λ it. many it ≤ INDEX_SHARDS) stores =
+    All-weaker (λ (it : ContextStore). IsSmall (view_seen it)) (λ it. many it ≤ INDEX_SHARDS) (λ it h. omega (arith, h.few, length-map it.shards.items rows_in)) stores
     (All-from_map (λ (context : Context). IsSmall context.view) context_seen stores small) in
     let part = sum_by_more_le_part (freed_one moment which) many stores at store within (λ it. cond_both (is_closing moment which (context_seen it)) (many it) 0 (λ n. n ≤ many it) (λ _. omega arith) (λ _. omega arith)) in
-    omega (arith, part, ap many is, sum_by-le many index_limit stores each)
+    omega (arith, part, ap many is, sum_by-le many INDEX_SHARDS stores each)

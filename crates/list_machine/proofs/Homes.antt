@@ -12,10 +12,10 @@ use Rattle.list_machine.proofs.ShardLemmas.{publish_All}
 use Rattle.list_machine.proofs.Moves.{Changed, IsOpAt, MovesIndexes, made, moves_indexes, slice_get_All}
 
 -- a changed shard is of its own documents
-changed_home : (event : Event) (at shards : ℕ) (old new : Shard) → Changed (IsOpAt event at shards) old new → IsHome at shards old → IsHome at shards new
-changed_home event at shards old new (inl c) h =
+changed_home : (event : Event) (mapping : List Field) (at shards : ℕ) (old new : Shard) → Changed (IsOpAt event mapping at shards) old new → IsHome at shards old → IsHome at shards new
+changed_home event mapping at shards old new (inl c) h =
     subst (IsHome at shards) (sym c.3) (record { rows = h.rows; pending = All-push (λ (op : Op). shard_of (id_of op) shards ≡ at) old.pending c.0 h.pending c.1.home })
-changed_home event at shards old new (inr c) h =
+changed_home event mapping at shards old new (inr c) h =
     let all = publish_All (λ (op : Op). shard_of (id_of op) shards ≡ at) (λ (row : Row). shard_of row.id shards ≡ at) (λ number id source values home. home) old c.0 h.rows h.pending in
     subst (IsHome at shards) (sym c.2) (record { rows = all.0; pending = all.1 })
 
@@ -29,13 +29,13 @@ set_cases (first ∷ xs) (suc at) (suc k) new x e =
     ⊎_elim (λ (here : (k ≡ at) × (new ≡ x)). inl (ap suc here.0, here.1)) (λ (there : slice_get xs k ≡ Some x). inr there) (set_cases xs at k new x e)
 
 -- an index keeps its homes where a shard of it changes
-changed_homes : (event : Event) (index : Index) (at : ℕ) (shard changed : Shard) → slice_get index.shards at ≡ Some shard → Changed (IsOpAt event at (length index.shards)) shard changed → AreHomes index → AreHomes (record index { shards = slice_set index.shards at changed })
+changed_homes : (event : Event) (index : Index) (at : ℕ) (shard changed : Shard) → slice_get index.shards at ≡ Some shard → Changed (IsOpAt event index.mapping at (length index.shards)) shard changed → AreHomes index → AreHomes (record index { shards = slice_set index.shards at changed })
 changed_homes event index at shard changed has changes homes k it e =
     let many : length index.shards ≡ length (slice_set index.shards at changed) = sym (length-set index.shards at changed) in
     subst (λ n. IsHome k n it) many
     (⊎_elim
     (λ (here : (k ≡ at) × (changed ≡ it)).
-    subst₂ (λ place one. IsHome place (length index.shards) one) (sym here.0) here.1 (changed_home event at (length index.shards) shard changed changes (homes at shard has)))
+    subst₂ (λ place one. IsHome place (length index.shards) one) (sym here.0) here.1 (changed_home event index.mapping at (length index.shards) shard changed changes (homes at shard has)))
     (λ (there : slice_get index.shards k ≡ Some it). homes k it there)
     (set_cases index.shards at k changed it e))
 

@@ -6,8 +6,9 @@ use Rattle.std.proofs.lemmas.List.{length-replicate}
 use Rattle.std.proofs.lemmas.List.Elements.{All-cons, All-nil}
 use Rattle.std.proofs.lemmas.List.Quantifiers.{all_pairs_push}
 use Rattle.std.proofs.lemmas.List.Sums.{sum_by-cons, sum_by_push}
+use Rattle.es_types.specs.declared.limits.TheConstants.{ALL_SHARDS}
 use Rattle.list_machine.specs.declared.event.Event.{Event}
-use Rattle.list_machine.specs.State.{Index, empty_shard, index_of, put_index, shard_count, most_shards}
+use Rattle.list_machine.specs.State.{Index, empty_shard, index_of, put_index, shard_count}
 use Rattle.list_machine.proofs.Moves.{MovesIndexes, made}
 
 -- an index that is found has that name
@@ -85,8 +86,8 @@ put_index_count new index (first ∷ indexes) many e =
     (cases_Bool (bytes_eq first.name new.name))
 
 -- a move keeps that there are not more shards than there may be
-pub moves_few : (event : Event) (old new : List Index) → MovesIndexes event old new → shard_count old ≤ most_shards → shard_count new ≤ most_shards
-moves_few event old new (inl same) h = subst (λ them. shard_count them ≤ most_shards) (sym same) h
+pub moves_few : (event : Event) (old new : List Index) → MovesIndexes event old new → shard_count old ≤ ALL_SHARDS → shard_count new ≤ ALL_SHARDS
+moves_few event old new (inl same) h = subst (λ them. shard_count them ≤ ALL_SHARDS) (sym same) h
 moves_few event old new (inr (inl m)) h =
     let changed : Index = record m.index { shards = slice_set m.index.shards m.at m.changed } in
     let there : index_of m.index.name old ≡ Some m.index = ap (λ name. index_of name old) (index_of_name m.name old m.index m.there) ∙ m.there in

@@ -13,6 +13,7 @@ pub mod ContextMoves
 pub mod Moves
 pub mod IndexMoves
 pub mod Homes
+pub mod Mapped
 pub mod Sound
 pub mod Runs
 pub mod Contexts
@@ -20,6 +21,6 @@ pub mod PlacesInOrder
 pub mod Shown
 pub mod Slicing
 pub mod Beyond
-pub mod Turns
+pub mod PagesInTurn
 pub mod Sealed
 pub mod SearchLemmas

@@ -9,11 +9,11 @@ use Rattle.es_query.specs.Limits.{bounds_of}
 use Rattle.es_query.specs.Matches.{matches}
 use Rattle.es_sort.specs.declared.sort.SortSpec.{SortSpec}
 use Rattle.slice_rule.specs.declared.slice.Slice.{Slice}
-use Rattle.list_machine.specs.declared.candidates.Candidate.{Candidate}
-use Rattle.list_machine.specs.declared.view.ShardRef.{ShardRef}
-use Rattle.list_machine.specs.declared.view.ViewRef.{ViewRef}
-use Rattle.list_machine.specs.Paging.{AddsPassing, AreCandidates}
-use Rattle.list_machine.specs.Stores.{AreBounded}
+use Rattle.list_machine.specs.declared.page.candidates.Candidate.{Candidate}
+use Rattle.list_machine.specs.declared.page.view.ShardRef.{ShardRef}
+use Rattle.list_machine.specs.declared.page.view.ViewRef.{ViewRef}
+use Rattle.list_machine.specs.Seen.Paging.{AddsPassing, AreCandidates}
+use Rattle.list_machine.specs.Seen.Stores.{AreBounded}
 use Rattle.list_machine.specs.Views.{View, Place, is_had, is_wanted, places_from, places_of_shard}
 
 -- one more row has its place behind the others

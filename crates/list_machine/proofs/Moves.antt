@@ -4,6 +4,7 @@ use Rattle.std.proofs.lemmas.Bool.{ltb-false, eqb-false, cond_both, cases_cond}
 use Rattle.std.proofs.lemmas.List.{map-id}
 use Rattle.std.proofs.lemmas.List.Elements.{All-cons, All-head, All-tail, All-push, All-replicate, All-set, All-weaker}
 use Rattle.std.proofs.lemmas.Option.{get_or_from_slice_get, slice_get_within}
+use Rattle.es_types.specs.declared.limits.TheConstants.{ALL_SHARDS}
 use Rattle.es_types.specs.declared.fit.DocFault.{DocFault}
 use Rattle.es_types.specs.declared.mapping.Field.{Field}
 use Rattle.es_types.specs.declared.row.Op.{Op}
@@ -20,9 +21,9 @@ use Rattle.list_machine.specs.declared.event.Change.TheVariants.{Put, Remove}
 use Rattle.list_machine.specs.declared.event.Which.{Which}
 use Rattle.list_machine.specs.declared.event.Reply.{Reply}
 use Rattle.list_machine.specs.declared.event.Reply.TheVariants.{Opened, TooMany}
-use Rattle.list_machine.specs.declared.search.SearchRequest.{SearchRequest}
+use Rattle.list_machine.specs.declared.page.request.SearchRequest.{SearchRequest}
 use Rattle.list_machine.specs.Rows.{Shard, last_number, publish}
-use Rattle.list_machine.specs.State.{State, Index, Context, empty_shard, id_of, index_of, put_index, context_of, is_live, live_contexts, shard_count, most_shards, view_of}
+use Rattle.list_machine.specs.State.{State, Index, Context, empty_shard, id_of, index_of, put_index, context_of, is_live, live_contexts, pit, shard_count, view_of}
 use Rattle.list_machine.specs.Step.{is_full, op_of, put_op, append_op, create, write_shard, write_op, write, seal, publish_shard, publish_index, open_pit, search_index, search_pit, is_fit, keep_one, keep_longer, close_one, close, happen, at_moment, step}
 use Rattle.list_machine.proofs.ContextMoves.{Keeps as KeepsEach, Rise, close_keeps, close_lives, keep_keeps, keep_lives}
 
@@ -47,14 +48,18 @@ put_index_All P new (index ∷ indexes) h all =
     (λ _. All-cons P new indexes h (All-tail P index indexes all))
     (λ _. All-cons P index (put_index new indexes) (All-head P index indexes all) (put_index_All P new indexes h (All-tail P index indexes all)))
 
--- an operation that an event may add
+-- an operation that an event may add to an index of that mapping
+abbrev pub IsOpIn : Event → List Field → Op → Type 0
+IsOpIn (Write name id change) mapping op = op_of mapping id change ≡ Ok op
+IsOpIn event mapping op = ⊥
+
+-- or to an index of any mapping
 abbrev pub IsOpOf : Event → Op → Type 0
-IsOpOf (Write name id change) op = (mapping : List Field) × (op_of mapping id change ≡ Ok op)
-IsOpOf event op = ⊥
+IsOpOf event op = (mapping : List Field) × IsOpIn event mapping op
 
 -- and whose document stands at that place among so many shards
-pub record IsOpAt (event : Event) (at shards : ℕ) (op : Op) : Type 0 where
-  pub of : IsOpOf event op
+pub record IsOpAt (event : Event) (mapping : List Field) (at shards : ℕ) (op : Op) : Type 0 where
+  pub of : IsOpIn event mapping op
   pub home : shard_of (id_of op) shards ≡ at
 
 -- a shard before and after a write or a publish
@@ -77,7 +82,7 @@ pub record Puts (event : Event) (old new : List Index) : Type 0 where
   pub changed : Shard
   pub there : index_of name old ≡ Some index
   pub has : slice_get index.shards at ≡ Some shard
-  pub changes : Changed (IsOpAt event at (length index.shards)) shard changed
+  pub changes : Changed (IsOpAt event index.mapping at (length index.shards)) shard changed
   pub is : new ≡ put_index (record index { shards = slice_set index.shards at changed }) old
 
 -- the index that an event makes
@@ -91,7 +96,7 @@ pub record Makes (event : Event) (old new : List Index) : Type 0 where
   pub mapping : List Field
   pub creates : event ≡ Create name shards mapping
   pub free : index_of name old ≡ None
-  pub room : shard_count old + shards ≤ most_shards
+  pub room : shard_count old + shards ≤ ALL_SHARDS
   pub is : new ≡ old ++ made name shards mapping ∷ []
 
 -- what becomes of the indexes
@@ -113,7 +118,7 @@ pub record Grows (old new : State) : Type 0 where
   pub expiry : ℕ
   pub there : index_of name old.indexes ≡ Some index
   pub room : count_by (is_live new.moment) old.contexts ≢ old.limits.pits
-  pub contexts : new.contexts ≡ old.contexts ++ record { number = old.next; view = view_of index; expiry = expiry; closed = false } ∷ []
+  pub contexts : new.contexts ≡ old.contexts ++ pit old.next (view_of index) expiry ∷ []
   pub next : new.next ≡ old.next + 1
 
 -- what becomes of the contexts
@@ -155,7 +160,7 @@ turns event state moment new m =
 create_moves : (state : State) (moment : ℕ) (name : List ℕ) (shards : ℕ) (mapping : List Field) (o : Option Index) → index_of name state.indexes ≡ o → Moves (Create name shards mapping) state (create (at_moment state moment) name shards mapping o).0
 create_moves state moment name shards mapping (Some index) e = stays (Create name shards mapping) state moment
 create_moves state moment name shards mapping None e =
-    cond_both (ltb most_shards (shard_count state.indexes + shards)) _ _ (λ (r : State × Reply). Moves (Create name shards mapping) state r.0)
+    cond_both (ltb ALL_SHARDS (shard_count state.indexes + shards)) _ _ (λ (r : State × Reply). Moves (Create name shards mapping) state r.0)
     (λ _. stays (Create name shards mapping) state moment)
     (λ room. turns (Create name shards mapping) state moment (state.indexes ++ made name shards mapping ∷ []) (inr (inr (record {
       name = name;
@@ -163,7 +168,7 @@ create_moves state moment name shards mapping None e =
       mapping = mapping;
       creates = refl;
       free = e;
-      room = ltb-false most_shards (shard_count state.indexes + shards) room;
+      room = ltb-false ALL_SHARDS (shard_count state.indexes + shards) room;
       is = refl;
     }))))
 
@@ -192,7 +197,7 @@ write_shard_moves state moment name index id change op is there (Some shard) e =
       changed = append_op shard op;
       there = there;
       has = e;
-      changes = inl (op, record { of = (index.mapping, is); home = ap (λ it. shard_of it (length index.shards)) (op_of_id index.mapping id change op is) }, free, refl);
+      changes = inl (op, record { of = is; home = ap (λ it. shard_of it (length index.shards)) (op_of_id index.mapping id change op is) }, free, refl);
       is = refl;
     }))))
 
@@ -239,7 +244,7 @@ publish_moves state moment name at upto (Some index) e = publish_shard_moves sta
 abbrev pub opened : State → ℕ → Index → State
 opened state keep index = record state {
   next = state.next + 1;
-  contexts = state.contexts ++ record { number = state.next; view = view_of index; expiry = state.moment + keep; closed = false } ∷ [];
+  contexts = state.contexts ++ pit state.next (view_of index) (state.moment + keep) ∷ [];
 }
 
 -- an opening moves
@@ -334,8 +339,8 @@ step_moves state entry = happen_moves state entry.moment entry.event
 
 -- what a change of a shard makes of an index, and what a new index has, a move makes of all indexes
 pub moves_indexes : (event : Event) (P R : Index → Type 0) → ((index : Index) → P index → R index)
-    → ((index : Index) (at : ℕ) (shard changed : Shard) → slice_get index.shards at ≡ Some shard → Changed (IsOpAt event at (length index.shards)) shard changed → P index → R (record index { shards = slice_set index.shards at changed }))
-    → ((name : List ℕ) (shards : ℕ) (mapping : List Field) → event ≡ Create name shards mapping → shards ≤ most_shards → R (made name shards mapping))
+    → ((index : Index) (at : ℕ) (shard changed : Shard) → slice_get index.shards at ≡ Some shard → Changed (IsOpAt event index.mapping at (length index.shards)) shard changed → P index → R (record index { shards = slice_set index.shards at changed }))
+    → ((name : List ℕ) (shards : ℕ) (mapping : List Field) → event ≡ Create name shards mapping → shards ≤ ALL_SHARDS → R (made name shards mapping))
     → (old new : List Index) → MovesIndexes event old new → All P old → All R new
 moves_indexes event P R weaker makes fresh old new (inl same) all = subst (All R) (sym same) (All-weaker P R weaker old all)
 moves_indexes event P R weaker makes fresh old new (inr (inl m)) all =
@@ -352,9 +357,9 @@ moves_shards event P R weaker makes empty =
     moves_indexes event (λ (index : Index). All P index.shards) (λ (index : Index). All R index.shards)
     (λ index all. All-weaker P R weaker index.shards all)
     (λ index at shard changed has changes all.
-    All-set R index.shards at changed (makes shard changed (any_home event at (length index.shards) shard changed changes) (slice_get_All P index.shards at shard all has)) (All-weaker P R weaker index.shards all))
+    All-set R index.shards at changed (makes shard changed (any_home event index.mapping at (length index.shards) shard changed changes) (slice_get_All P index.shards at shard all has)) (All-weaker P R weaker index.shards all))
     (λ name shards mapping creates few. All-replicate R shards empty_shard empty)
   where
-    any_home : (event : Event) (at shards : ℕ) (old new : Shard) → Changed (IsOpAt event at shards) old new → Changed (IsOpOf event) old new
-    any_home event at shards old new (inl c) = inl (c.0, c.1.of, c.2, c.3)
-    any_home event at shards old new (inr c) = inr c
+    any_home : (event : Event) (mapping : List Field) (at shards : ℕ) (old new : Shard) → Changed (IsOpAt event mapping at shards) old new → Changed (IsOpOf event) old new
+    any_home event mapping at shards old new (inl c) = inl (c.0, (mapping, c.1.of), c.2, c.3)
+    any_home event mapping at shards old new (inr c) = inr c

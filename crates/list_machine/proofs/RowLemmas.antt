@@ -10,7 +10,7 @@ use Rattle.es_types.specs.declared.row.Row.{Row}
 use Rattle.es_types.specs.declared.row.Op.{Op}
 use Rattle.es_types.specs.declared.row.Op.TheVariants.{Put, Remove}
 use Rattle.list_machine.specs.Rows.{apply, apply_all, has_id, without}
-use Rattle.list_machine.specs.Standing.{stands_after}
+use Rattle.list_machine.specs.Seen.Standing.{stands_after}
 
 -- equality of bytes goes both ways
 pub bytes_eq-sym : (xs ys : List ℕ) → bytes_eq xs ys ≡ bytes_eq ys xs

@@ -6,14 +6,14 @@ use Rattle.std.proofs.lemmas.List.Elements.{All-map, All-weaker}
 use Rattle.std.proofs.lemmas.Simd.{map-map}
 use Rattle.es_types.specs.declared.row.Row.{Row}
 use Rattle.list_machine.specs.declared.event.Reply.{Reply}
-use Rattle.list_machine.specs.declared.search.SearchRequest.{SearchRequest}
+use Rattle.list_machine.specs.declared.page.request.SearchRequest.{SearchRequest}
 use Rattle.list_machine.specs.declared.store.IndexStore.{IndexStore}
 use Rattle.list_machine.specs.declared.store.ShardStore.{ShardStore}
 use Rattle.list_machine.specs.Rows.{Shard}
 use Rattle.list_machine.specs.State.{IsSoundShard, State, index_of}
 use Rattle.list_machine.specs.Step.{search_index, search_reply}
-use Rattle.list_machine.specs.Stores.{IsCountedIndex, IsSmall, index_seen, indexes_seen, shard_seen, shards_seen, view_over}
-use Rattle.list_machine.proofs.IndexLemmas.{IsFound, index_of-first}
+use Rattle.list_machine.specs.Seen.Stores.{IsCountedIndex, IsSmall, index_seen, indexes_seen, shard_seen, shards_seen, view_over}
+use Rattle.list_machine.proofs.IndexLemmas.{IsFound}
 use Rattle.list_machine.proofs.StoreLemmas.{All-from_map}
 
 -- the rows of its shards
@@ -33,12 +33,12 @@ small_rows store n lists is counted sound =
     }
 
 -- a search of the found index is one of the view of these rows
-pub search_is : {name : List ℕ} {stores : List IndexStore} {at : ℕ} {store : IndexStore} → IsFound name stores at store
+pub search_is : {name : List ℕ} {stores : List IndexStore} {at : ℕ} {store : IndexStore} → IsFound index_seen name stores at store
     → (lists : List (List Row)) → lists ≡ lists_of store → (request : SearchRequest) (reply : Reply) → reply ≡ search_reply (view_over store.name store.mapping lists) request
     → (state : State) → search_index state request (index_of name (indexes_seen stores)) ≡ (state, reply)
 search_is {name} {stores} {at} {store} found lists same request reply is state =
     let replied : Reply → State × Reply = λ it. (state, it) in
     let viewed : List (List Row) → State × Reply = λ them. (state, search_reply (view_over store.name store.mapping them) request) in
-    ap (λ it. search_index state request it) (index_of-first name stores at store found.first found.is)
+    ap (λ it. search_index state request it) found.there
     ∙ ap viewed (map-map (λ (shard : Shard). shard.rows) shard_seen store.shards.items ∙ sym same)
     ∙ ap replied (sym is)

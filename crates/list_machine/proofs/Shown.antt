@@ -10,7 +10,7 @@ use Rattle.es_sort.specs.declared.sort.SortSpec.{SortSpec}
 use Rattle.es_sort.specs.Keys.{all_keys, lists_place, shown_keys, values_by, with_place}
 use Rattle.es_sort.specs.Orders.{compare, values_order}
 use Rattle.list_machine.specs.Pages.{shows_place}
-use Rattle.list_machine.specs.Views.{View, Place, comes_before, is_beyond, key_at, place_number, shown_at}
+use Rattle.list_machine.specs.Views.{View, Place, comes_before, is_past, key_at, place_number, shown_at}
 
 -- where the place is shown, so is each key
 shows_all : (sort : SortSpec) → shows_place sort ≡ true → shown_keys sort ≡ all_keys sort
@@ -29,7 +29,7 @@ shown_key view sort shows place after is =
 
 -- beyond them are the places that it comes before
 pub beyond_is : (view : View) (sort : SortSpec) → IsTotalOrder (compare sort) → shows_place sort ≡ true → (place : Place) (after : Keys) → after.values ≡ shown_at view sort place
-    → (other : Place) → is_beyond view sort (Some after) other ≡ comes_before view sort place other
+    → (other : Place) → is_past view sort (Some after) other ≡ comes_before view sort place other
 beyond_is view sort total shows place after is other =
     let x = key_at view sort place in
     let y = key_at view sort other in

@@ -1,5 +1,5 @@
 -- Each state that the machine comes to is sound.
-use Rattle.std.proofs.Common.{◌≡◌, ℕ, ◌+◌, ◌<◌, ◌≤◌, false, cond, inl, inr, List, [], ◌∷◌, ◌++◌, map, All, AllPairs, bytes_eq, count_by, Result, Ok, Err, refl, sym, ap, subst, subst₂, arith}
+use Rattle.std.proofs.Common.{◌≡◌, ℕ, ◌+◌, ◌<◌, ◌≤◌, cond, inl, inr, List, [], ◌∷◌, ◌++◌, map, All, AllPairs, bytes_eq, count_by, Result, Ok, Err, refl, sym, ap, subst, subst₂, arith}
 use Rattle.std.proofs.lemmas.List.Elements.{All-nil, All-cons, All-head, All-tail, All-push, All-weaker, All-map}
 use Rattle.std.proofs.lemmas.List.Quantifiers.{all_pairs_push}
 use Rattle.std.proofs.lemmas.List.Sums.{sum_by-le-sum_by, sum_by_push}
@@ -18,7 +18,7 @@ use Rattle.list_machine.specs.declared.event.Change.TheVariants.{Put, Remove}
 use Rattle.list_machine.specs.Rows.{Shard}
 use Rattle.list_machine.specs.Objects.{AreObjects, IsObject, PutsObjectOp}
 use Rattle.list_machine.specs.Views.{View}
-use Rattle.list_machine.specs.State.{AreHomes, State, Index, Context, IsSoundShard, IsSound, HasObjects, empty_shard, docs, start, view_of, is_live, live_contexts}
+use Rattle.list_machine.specs.State.{AreHomes, State, Index, Context, IsSoundShard, IsSound, HasObjects, empty_shard, docs, start, view_of, is_live, live_contexts, pit}
 use Rattle.list_machine.specs.Step.{put_op, step}
 use Rattle.list_machine.specs.Run.{History, run, state_of, PutsObject}
 use Rattle.list_machine.proofs.ShardLemmas.{publish_sound, append_sound, publish_All}
@@ -26,6 +26,7 @@ use Rattle.list_machine.proofs.ContextMoves.{Rise, kept_issued, kept_rise, kept_
 use Rattle.list_machine.proofs.Moves.{find_All, Changed, IsOpOf, Keeps, Moves, MovesContexts, made, step_moves, moves_shards}
 use Rattle.list_machine.proofs.IndexMoves.{moves_few, moves_names}
 use Rattle.list_machine.proofs.Homes.{made_homes, moves_homes}
+use Rattle.list_machine.proofs.Mapped.{HaveAll, ViewHas, made_values, moves_values, moves_view_values}
 
 -- the empty shard is sound
 empty_sound : IsSoundShard empty_shard
@@ -44,14 +45,14 @@ changed_sound Q old new (inr c) h = subst IsSoundShard (sym c.2) (publish_sound 
 -- the contexts' numbers rise and are below the next
 pub record SoundContexts (contexts : List Context) (next : ℕ) : Type 0 where
   pub issued : All (λ (context : Context). context.number < next) contexts
-  pub numbers_differ : AllPairs (λ (a b : Context). a.number < b.number) contexts
+  pub numbers_rise : AllPairs (λ (a b : Context). a.number < b.number) contexts
 
 -- one more context, of the next number
 push_context : (contexts : List Context) (next : ℕ) (context : Context) → context.number ≡ next → SoundContexts contexts next → SoundContexts (contexts ++ context ∷ []) (next + 1)
 push_context contexts next context e h =
     record {
       issued = All-push (λ (c : Context). c.number < next + 1) contexts context (All-weaker (λ (c : Context). c.number < next) (λ (c : Context). c.number < next + 1) (λ x l. omega arith) contexts h.issued) (omega arith);
-      numbers_differ = all_pairs_push (λ (a b : Context). a.number < b.number) contexts context h.numbers_differ (λ k d l. let below = h.issued k d l in omega (arith, below, e));
+      numbers_rise = all_pairs_push (λ (a b : Context). a.number < b.number) contexts context h.numbers_rise (λ k d l. let below = h.issued k d l in omega (arith, below, e));
     }
 
 -- a move keeps the contexts sound
@@ -59,10 +60,10 @@ moves_contexts : (old new : State) → MovesContexts old new → SoundContexts o
 moves_contexts old new (inl m) h =
     subst₂ SoundContexts (sym m.contexts) (sym m.next) (record {
       issued = kept_issued m.to m.keeps old.next old.contexts h.issued;
-      numbers_differ = kept_rise m.to m.keeps old.contexts h.numbers_differ;
+      numbers_rise = kept_rise m.to m.keeps old.contexts h.numbers_rise;
     })
 moves_contexts old new (inr m) h =
-    subst₂ SoundContexts (sym m.contexts) (sym m.next) (push_context old.contexts old.next (record { number = old.next; view = view_of m.index; expiry = m.expiry; closed = false }) refl h)
+    subst₂ SoundContexts (sym m.contexts) (sym m.next) (push_context old.contexts old.next (pit old.next (view_of m.index) m.expiry) refl h)
 
 -- as time goes on, fewer are live
 live_later : (contexts : List Context) (early late : ℕ) → early ≤ late → count_by (is_live late) contexts ≤ count_by (is_live early) contexts
@@ -84,22 +85,24 @@ live_before old new k h =
 moves_limited : (old new : State) → Keeps old new → MovesContexts old new → Rise old.contexts → live_contexts old ≤ old.limits.pits → live_contexts new ≤ new.limits.pits
 moves_limited old new k (inl m) rise h = omega (arith, m.lives rise, live_before old new k h)
 moves_limited old new k (inr m) rise h =
-    let context : Context = record { number = old.next; view = view_of m.index; expiry = m.expiry; closed = false } in
+    let context : Context = pit old.next (view_of m.index) m.expiry in
     subst (λ contexts. count_by (is_live new.moment) contexts ≤ new.limits.pits) (sym m.contexts)
     (omega (arith, live_before old new k h, live_push new.moment old.contexts context, m.room, ap (λ (limits : Limits). limits.pits) k.limits))
 
 -- a move keeps a state sound
 moves_sound : (event : Event) (old new : State) → Moves event old new → IsSound old → IsSound new
 moves_sound event old new m h =
-    let contexts = moves_contexts old new m.contexts (record { issued = h.issued; numbers_differ = h.numbers_differ }) in
+    let contexts = moves_contexts old new m.contexts (record { issued = h.issued; numbers_rise = h.numbers_rise }) in
     record {
       shards = moves_shards event IsSoundShard IsSoundShard (λ shard sound. sound) (changed_sound (IsOpOf event)) empty_sound old.indexes new.indexes m.indexes h.shards;
       homes = moves_homes event old.indexes new.indexes m.indexes h.homes;
+      values = moves_values event old.indexes new.indexes m.indexes h.values;
+      view_values = moves_view_values old new m.contexts h.values h.view_values;
       names_differ = moves_names event old.indexes new.indexes m.indexes h.names_differ;
       few = moves_few event old.indexes new.indexes m.indexes h.few;
       issued = contexts.issued;
-      numbers_differ = contexts.numbers_differ;
-      limited = moves_limited old new m.kept m.contexts h.numbers_differ h.limited;
+      numbers_rise = contexts.numbers_rise;
+      limited = moves_limited old new m.kept m.contexts h.numbers_rise h.limited;
     }
 
 -- a step keeps a state sound
@@ -118,10 +121,12 @@ start_sound limits =
     record {
       shards = All-cons (λ (index : Index). All IsSoundShard index.shards) index [] (All-cons IsSoundShard empty_shard [] empty_sound (All-nil IsSoundShard)) (All-nil (λ (index : Index). All IsSoundShard index.shards));
       homes = All-cons AreHomes index [] (made_homes docs 1 []) (All-nil AreHomes);
+      values = All-cons HaveAll index [] (made_values docs 1 []) (All-nil HaveAll);
+      view_values = All-nil (λ (context : Context). ViewHas context.view);
       names_differ = λ i j d a b. absurd (omega arith);
       few = omega arith;
       issued = λ k d l. absurd (omega arith);
-      numbers_differ = λ i j d a b. absurd (omega arith);
+      numbers_rise = λ i j d a b. absurd (omega arith);
       limited = omega arith;
     }
 
@@ -158,7 +163,7 @@ moves_views old new (inl m) h =
 moves_views old new (inr m) h =
     let was : All HasShardObjects m.index.shards = find_All (λ (index : Index). All HasShardObjects index.shards) (λ (index : Index). bytes_eq index.name m.name) old.indexes m.index h.shards m.there in
     subst (All (λ (context : Context). All AreObjects context.view.shards)) (sym m.contexts)
-    (All-push (λ (context : Context). All AreObjects context.view.shards) old.contexts (record { number = old.next; view = view_of m.index; expiry = m.expiry; closed = false }) h.views (view_objects m.index.shards was))
+    (All-push (λ (context : Context). All AreObjects context.view.shards) old.contexts (pit old.next (view_of m.index) m.expiry) h.views (view_objects m.index.shards was))
 
 -- the operation of a put has the put's source
 put_op_object : (id source : List ℕ) (r : Result (List Value) DocFault) (op : Op) → put_op id source r ≡ Ok op → IsObject source → PutsObjectOp op
@@ -169,13 +174,13 @@ put_op_object id source (Err fault) op e o = absurd (cc)
 event_puts : (event : Event) → PutsObject event → (op : Op) → IsOpOf event op → PutsObjectOp op
 event_puts (Write index id (Put doc)) o op of = put_op_object id doc.source (fit of.0 doc.members) op of.1 o
 event_puts (Write index id Remove) o op of = let same : RemoveOp id ≡ op = cc (of.1) in subst PutsObjectOp same tt
-event_puts (Create index shards mapping) o op of = absurd of
-event_puts (Seal index) o op of = absurd of
-event_puts (Publish index shard upto) o op of = absurd of
-event_puts (OpenPit index keep) o op of = absurd of
-event_puts (Search target request) o op of = absurd of
-event_puts (Close which) o op of = absurd of
-event_puts Quiet o op of = absurd of
+event_puts (Create index shards mapping) o op of = absurd of.1
+event_puts (Seal index) o op of = absurd of.1
+event_puts (Publish index shard upto) o op of = absurd of.1
+event_puts (OpenPit index keep) o op of = absurd of.1
+event_puts (Search target request) o op of = absurd of.1
+event_puts (Close which) o op of = absurd of.1
+event_puts Quiet o op of = absurd of.1
 
 -- an empty shard has nothing but objects
 empty_objects : HasShardObjects empty_shard

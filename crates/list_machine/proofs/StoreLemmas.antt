@@ -13,7 +13,8 @@ use Rattle.list_machine.specs.declared.event.Reply.{Reply}
 use Rattle.list_machine.specs.declared.store.ShardStore.{ShardStore}
 use Rattle.list_machine.specs.Rows.{Shard}
 use Rattle.list_machine.specs.Step.{op_of}
-use Rattle.list_machine.specs.Stores.{publish_at, publish_in, publish_of, shard_seen, shards_seen, write_at, write_by, write_in, write_of}
+use Rattle.list_machine.specs.Changes.{publish_at, publish_in, publish_of, write_at, write_by, write_in, write_of}
+use Rattle.list_machine.specs.Seen.Stores.{shard_seen, shards_seen}
 
 -- the rows in a list
 abbrev pub rows_in : Vec Row Global → List Row
@@ -44,7 +45,7 @@ publish_in_is stores at upto old new less is makes =
 -- a write to the shard that is read, which is the document's
 write_in_is : (mapping : List Field) (stores : List ShardStore) (id : List ℕ) (change : Change) (op : Op) (home : ℕ) (old new : ShardStore) (reply : Reply)
     → op_of mapping id change ≡ Ok op → home ≡ shard_of id (length stores) → home < length stores → old ≡ get_or stores home old
-    → write_of (shard_seen old) id change op ≡ (shard_seen new, reply)
+    → write_of (shard_seen old) op ≡ (shard_seen new, reply)
     → write_in mapping (shards_seen stores) id change ≡ (shards_seen (set stores home new), reply)
 write_in_is mapping stores id change op home old new reply made homes less is writes =
     let shards = shards_seen stores in
@@ -52,15 +53,15 @@ write_in_is mapping stores id change op home old new reply made homes less is wr
     let same : at ≡ home = ap (shard_of id) (length-map stores shard_seen) ∙ sym homes in
     let put : Shard × Reply → ℕ → List Shard × Reply = λ pair k. (set shards k pair.0, pair.1) in
     let with_reply : List Shard → List Shard × Reply = λ them. (them, reply) in
-    ap (write_by shards id change) made
-    ∙ ap (write_at shards id change op) (ap (slice_get shards) same ∙ seen_at stores home old less is)
+    ap (write_by shards id) made
+    ∙ ap (write_at shards id op) (ap (slice_get shards) same ∙ seen_at stores home old less is)
     ∙ ap₂ put writes same
     ∙ ap with_reply (sym (map-set shard_seen stores home new))
 
 -- the same by the call's result
 pub write_in_done : (mapping : List Field) (stores : List ShardStore) (id : List ℕ) (change : Change) (op : Op) (home : ℕ) (old new : ShardStore)
     → op_of mapping id change ≡ Ok op → home ≡ shard_of id (length stores) → home < length stores → old ≡ get_or stores home old
-    → {E : Type 0} (r : Result Reply E) → IfOk r (λ reply. write_of (shard_seen old) id change op ≡ (shard_seen new, reply))
+    → {E : Type 0} (r : Result Reply E) → IfOk r (λ reply. write_of (shard_seen old) op ≡ (shard_seen new, reply))
     → IfOk r (λ reply. write_in mapping (shards_seen stores) id change ≡ (shards_seen (set stores home new), reply))
 write_in_done mapping stores id change op home old new made homes less is (Ok reply) writes =
     write_in_is mapping stores id change op home old new reply made homes less is writes

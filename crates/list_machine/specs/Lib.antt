@@ -4,12 +4,9 @@ pub mod Views
 pub mod Objects
 pub mod State
 pub mod Step
-pub mod Lasts
+pub mod Changes
 pub mod Run
 pub mod Pages
 pub mod Sliced
 pub mod Serving
-pub mod Ran
-pub mod Stores
-pub mod Standing
-pub mod Paging
+pub mod Seen

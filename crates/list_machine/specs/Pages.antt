@@ -11,12 +11,12 @@ use Rattle.list_machine.specs.declared.event.Event.TheVariants.{OpenPit, Search}
 use Rattle.list_machine.specs.declared.event.Target.TheVariants.{Pit}
 use Rattle.list_machine.specs.declared.event.Reply.TheVariants.{Opened, Found}
 use Rattle.list_machine.specs.declared.event.Limits.{Limits}
-use Rattle.list_machine.specs.declared.search.SearchRequest.{SearchRequest}
-use Rattle.list_machine.specs.declared.search.Answer.{Answer}
-use Rattle.list_machine.specs.declared.search.Hit.{Hit}
+use Rattle.list_machine.specs.declared.page.request.SearchRequest.{SearchRequest}
+use Rattle.list_machine.specs.declared.page.request.Answer.{Answer}
+use Rattle.list_machine.specs.declared.page.request.Hit.{Hit}
 use Rattle.list_machine.specs.Views.{View, enumeration, hit}
 use Rattle.list_machine.specs.State.{Index, index_of, view_of}
-use Rattle.list_machine.specs.Run.{History, state_of, reply_of, Stands}
+use Rattle.list_machine.specs.Run.{History, state_of, reply_of, Occurs}
 
 -- a search of the point in time with that number, and the page that it was answered
 pub record Turn (limits : Limits) (history : History) (number : ℕ) : Type 0 where
@@ -25,7 +25,7 @@ pub record Turn (limits : Limits) (history : History) (number : ℕ) : Type 0 wh
   pub keep : Option ℕ
   pub request : SearchRequest
   pub answer : Answer
-  pub stands : Stands history before entry
+  pub stands : Occurs history before entry
   pub searches : entry.event ≡ Search (Pit number keep) request
   pub found : reply_of limits before entry ≡ Found answer
 
@@ -64,8 +64,8 @@ abbrev pub shows_place : SortSpec → Bool
 shows_place sort = sort.show_place || lists_place sort.keys
 
 -- the hits of the pages, joined
-abbrev pub hits_of : {limits : Limits} {history : History} {number : ℕ} → List (Turn limits history number) → List Hit
-hits_of turns = flat_map (λ turn. turn.answer.hits) turns
+abbrev pub all_hits : {limits : Limits} {history : History} {number : ℕ} → List (Turn limits history number) → List Hit
+all_hits turns = flat_map (λ turn. turn.answer.hits) turns
 
 -- the last page has fewer hits than it was asked for
 abbrev pub EndsShort : {limits : Limits} {history : History} {number : ℕ} → List (Turn limits history number) → Type 0
@@ -80,7 +80,7 @@ pub record Opens (limits : Limits) (history : History) (number : ℕ) (view : Vi
   pub index : List ℕ
   pub keep : ℕ
   pub found : Index
-  pub stands : Stands history before entry
+  pub stands : Occurs history before entry
   pub opens : entry.event ≡ OpenPit index keep
   pub opened : reply_of limits before entry ≡ Opened number
   pub there : index_of index (state_of limits before).indexes ≡ Some found
@@ -90,10 +90,14 @@ pub record Opens (limits : Limits) (history : History) (number : ℕ) (view : Vi
 abbrev pub documents : View → Query → SortSpec → Option Slice → List Hit
 documents view query sort slice = map (hit view sort) (enumeration view query sort slice)
 
--- Pages taken in turn are a prefix of the sorted matching documents of the frozen view, and all of them once
--- a page is short.
-abbrev pub Enumerates : Limits → History → Type 0
-Enumerates limits history =
+-- Pages of a point in time taken in turn are a prefix of the sorted matching documents of the frozen view, and all
+-- of them once a page is short.
+abbrev pub PitsInTurn : Limits → History → Type 0
+PitsInTurn limits history =
     (number : ℕ) (view : View) (query : Query) (sort : SortSpec) (slice : Option Slice) (turns : List (Turn limits history number))
     → Opens limits history number view → IsTrue (shows_place sort) → InTurn query sort slice turns
-    → (rest : List Hit) × (documents view query sort slice ≡ hits_of turns ++ rest) × (EndsShort turns → rest ≡ [])
+    → (rest : List Hit) × (documents view query sort slice ≡ all_hits turns ++ rest) × (EndsShort turns → rest ≡ [])
+
+-- what pages that are taken in turn show, in each way that they can be taken
+pub record Enumerates (limits : Limits) (history : History) : Type 0 where
+  pub pits : PitsInTurn limits history

@@ -1,14 +1,15 @@
 -- What the calls of a service add to its history, and what they answer.
 use Rattle.std.specs.Prelude.{◌≡◌, ◌≢◌, ◌⊎◌, ℕ, ◌+◌, ◌*◌, ◌≤◌, ◌==◌, List, ◌∷◌, ◌++◌, length, sum_by, count_by, slice_get, Some, All}
+use Rattle.es_types.specs.declared.limits.TheConstants.{MOST_ENTRIES}
 use Rattle.list_machine.specs.declared.event.Entry.{Entry}
 use Rattle.list_machine.specs.declared.event.Event.{Event}
-use Rattle.list_machine.specs.declared.event.Event.TheVariants.{Create, Seal, Publish, Search, Quiet}
+use Rattle.list_machine.specs.declared.event.Event.TheVariants.{Create, Write, Seal, Publish, OpenPit, Search, Close, Quiet}
 use Rattle.list_machine.specs.declared.event.Reply.{Reply}
 use Rattle.list_machine.specs.declared.event.Reply.TheVariants.{Sealed, Spent}
 use Rattle.list_machine.specs.declared.event.Limits.{Limits}
 use Rattle.list_machine.specs.Rows.{Shard}
 use Rattle.list_machine.specs.State.{State, Index}
-use Rattle.list_machine.specs.Run.{History, reply_of, Stands, IsBounded, PutsObject}
+use Rattle.list_machine.specs.Run.{History, reply_of, Occurs, IsBounded, PutsObject}
 
 -- by which number a seat asks, and by which it does what nobody asked it for
 abbrev pub asking : ℕ → ℕ
@@ -22,19 +23,26 @@ pub record HasSealed (limits : Limits) (history : History) (index : List ℕ) (s
   pub before : History
   pub entry : Entry
   pub numbers : List ℕ
-  pub stands : Stands history before entry
+  pub stands : Occurs history before entry
   pub seals : entry.event ≡ Seal index
   pub sealed : reply_of limits before entry ≡ Sealed numbers
   pub number : slice_get numbers shard ≡ Some upto
 
--- What may be asked. A put needs a JSON object, an index 1 to 1,024 shards, a search to be within its limits, and a Publish a
--- number that a Seal answered for that shard.
+-- a shard may always be published up to 0, and else up to a number that a Seal answered for it
+abbrev pub MayPublish : Limits → History → List ℕ → ℕ → ℕ → Type 0
+MayPublish limits history index shard upto = (upto ≡ 0) ⊎ HasSealed limits history index shard upto
+
+-- What may be asked. An index needs 1 to 1,024 shards, a put a JSON object, a Publish 0 or a number that a Seal answered for that
+-- shard, and a search is within its limits. Nobody asks for a Quiet, and all else may be asked.
 abbrev pub IsAskable : Limits → History → Event → Type 0
-IsAskable limits history (Publish index shard upto) = HasSealed limits history index shard upto
 IsAskable limits history (Create index shards mapping) = IsBounded (Create index shards mapping)
+IsAskable limits history (Write index id change) = PutsObject (Write index id change)
+IsAskable limits history (Seal index) = Unit {0}
+IsAskable limits history (Publish index shard upto) = MayPublish limits history index shard upto
+IsAskable limits history (OpenPit index keep) = Unit {0}
 IsAskable limits history (Search target request) = IsBounded (Search target request)
+IsAskable limits history (Close which) = Unit {0}
 IsAskable limits history Quiet = ⊥
-IsAskable limits history event = PutsObject event
 
 -- What a call adds beside what it asks: entries of others, and at most so many Quiets of its own, all at
 -- the moment that it was handed.
@@ -87,6 +95,6 @@ applied state = sum_by (λ (index : Index). sum_by (λ (shard : Shard). shard.ba
 -- a history of a service: not longer than it may be, and each put a JSON object
 pub record IsKept (limits : Limits) (history : History) : Type 0 where
   pub some : 1 ≤ limits.entries
-  pub bounded : limits.entries ≤ 9007199254740992
+  pub bounded : limits.entries ≤ MOST_ENTRIES
   pub room : length history ≤ limits.entries
   pub objects : All (λ (entry : Entry). PutsObject entry.event) history

@@ -1,6 +1,7 @@
 -- One step of the machine, and its reply.
-use Rattle.std.specs.Prelude.{ℕ, ◌+◌, ◌==◌, ◌&&◌, max, Bool, true, false, nat_le, nat_lt, if◌then◌else◌, List, [], ◌∷◌, ◌++◌, length, map, filter, sum_by, replicate, Option, Some, None, Result, Ok, Err, slice_get, slice_set}
+use Rattle.std.specs.Prelude.{ℕ, ◌+◌, ◌==◌, ◌&&◌, max, Bool, true, false, nat_le, nat_lt, if◌then◌else◌, List, [], ◌∷◌, ◌++◌, length, map, filter, sum_by, replicate, Option, Some, None, is_none, unwrap_or, Result, Ok, Err, slice_get, slice_set}
 use Rattle.std.specs.List.{list_any}
+use Rattle.es_types.specs.declared.limits.TheConstants.{ALL_SHARDS, SHARD_ROWS}
 use Rattle.es_types.specs.declared.fit.DocFault.{DocFault}
 use Rattle.es_types.specs.declared.mapping.Field.{Field}
 use Rattle.es_types.specs.declared.row.Op.{Op}
@@ -25,17 +26,13 @@ use Rattle.list_machine.specs.declared.event.Wrote.{Wrote}
 use Rattle.list_machine.specs.declared.event.Wrote.TheVariants.{Created, Updated, Deleted, NotFound}
 use Rattle.list_machine.specs.declared.event.Reply.{Reply}
 use Rattle.list_machine.specs.declared.event.Reply.TheVariants.{Done, Wrote as WroteReply, Sealed, Opened, Found, Closed, NoIndex, Exists, Missing, BadDoc, BadQuery, BadSort, BadAfter, TooMany, ShardFull}
-use Rattle.list_machine.specs.declared.search.SearchRequest.{SearchRequest}
+use Rattle.list_machine.specs.declared.page.request.SearchRequest.{SearchRequest}
 use Rattle.list_machine.specs.Rows.{Shard, has_id, last_number, publish, rows_to_come}
-use Rattle.list_machine.specs.Views.{View, answer}
-use Rattle.list_machine.specs.State.{State, Index, Context, empty_shard, index_of, put_index, context_of, is_live, live_contexts, shard_count, most_shards, view_of}
-
--- as many rows and waiting operations as a shard may have
-abbrev pub shard_limit : ℕ
-shard_limit = 2147483647
+use Rattle.list_machine.specs.Views.{View, answer, mapping_at, shards_of}
+use Rattle.list_machine.specs.State.{State, Index, Context, empty_shard, index_of, put_index, context_of, is_live, live_contexts, pit, shard_count, view_of}
 
 abbrev pub is_full : Shard → Bool
-is_full shard = nat_le shard_limit (length shard.rows + length shard.pending)
+is_full shard = nat_le SHARD_ROWS (length shard.rows + length shard.pending)
 
 -- the operation that a put is, or the fault of its document
 abbrev pub put_op : List ℕ → List ℕ → Result (List Value) DocFault → Result Op DocFault
@@ -65,8 +62,8 @@ append_op shard op = record shard { pending = shard.pending ++ op ∷ [] }
 abbrev pub create : State → List ℕ → ℕ → List Field → Option Index → State × Reply
 create state name shards mapping (Some index) = (state, Exists)
 create state name shards mapping None =
-    if nat_lt most_shards (shard_count state.indexes + shards)
-    then (state, TooMany most_shards)
+    if nat_lt ALL_SHARDS (shard_count state.indexes + shards)
+    then (state, TooMany ALL_SHARDS)
     else (
       record state { indexes = state.indexes ++ record { name = name; mapping = mapping; shards = replicate shards empty_shard } ∷ [] },
       Done,
@@ -111,35 +108,39 @@ open_pit state keep (Some index) =
     else (
       record state {
         next = state.next + 1;
-        contexts = state.contexts ++ record { number = state.next; view = view_of index; expiry = state.moment + keep; closed = false } ∷ [];
+        contexts = state.contexts ++ pit state.next (view_of index) (state.moment + keep) ∷ [];
       },
       Opened state.next,
     )
 
--- whether the values that a request goes on behind are those of its sort
-abbrev pub goes_on : View → SortSpec → Option Keys → Bool
-goes_on view sort None = true
-goes_on view sort (Some after) = after_fits view.mapping sort after
+-- whether the values to go on after, where a request gives some, are those of its sort
+abbrev pub after_fits_sort : View → SortSpec → Option Keys → Bool
+after_fits_sort view sort None = true
+after_fits_sort view sort (Some after) = after_fits (mapping_at view 0) sort after
 
--- What a search of a view is answered. First a query that has a value of another kind than its field is refused, then a sort by
--- a field that isn't mapped, then values to go on behind that are none of the sort.
-abbrev pub search_reply : View → SearchRequest → Reply
-search_reply view request =
-    if fits view.mapping request.query
+-- Why a request doesn't fit a view: first by a query that has a value of another kind than its field, then by a sort by a field
+-- that isn't mapped, then by values to go on after that are none of the sort. None where it fits.
+abbrev pub unfit : View → SearchRequest → Option Reply
+unfit view request =
+    if fits (mapping_at view 0) request.query
     then (
-    if sort_fits view.mapping request.sort
-    then (if goes_on view request.sort request.after then Found (answer view request request.from) else BadAfter)
-    else BadSort
+    if sort_fits (mapping_at view 0) request.sort
+    then (if after_fits_sort view request.sort request.after then None else Some BadAfter)
+    else Some BadSort
     )
-    else BadQuery
+    else Some BadQuery
+
+-- what a search of a view is answered
+abbrev pub search_reply : View → SearchRequest → Reply
+search_reply view request = unwrap_or (unfit view request) (Found (answer view request request.from))
 
 abbrev pub search_index : State → SearchRequest → Option Index → State × Reply
 search_index state request None = (state, NoIndex)
 search_index state request (Some index) = (state, search_reply (view_of index) request)
 
--- whether a search of the view is none of those refusals
+-- whether a request fits the view
 abbrev pub is_fit : View → SearchRequest → Bool
-is_fit view request = fits view.mapping request.query && (sort_fits view.mapping request.sort && goes_on view request.sort request.after)
+is_fit view request = is_none (unfit view request)
 
 -- the last live moment of a context that is kept so long from a moment on: it is never shortened
 abbrev pub kept_till : ℕ → ℕ → ℕ → ℕ
@@ -179,7 +180,7 @@ close_one moment which context = if is_closing moment which context then record 
 
 -- how many shards the views of those have together
 abbrev pub freed : ℕ → Which → List Context → ℕ
-freed moment which contexts = sum_by (λ (context : Context). length context.view.shards) (filter (is_closing moment which) contexts)
+freed moment which contexts = sum_by (λ (context : Context). length (shards_of context.view)) (filter (is_closing moment which) contexts)
 
 abbrev pub close : State → Which → State × Reply
 close state which = (

@@ -1,7 +1,7 @@
-ghost use Rattle.std.specs.Prelude.{◌≡◌, false, IfOk, map};
+ghost use Rattle.std.specs.Prelude.{◌≡◌, IfOk, map};
 ghost use Rattle.es_query.specs.Limits.{bounds_of};
 
-use crate::bounds::bounds_in;
+use crate::page::bounds::bounds_in;
 use es_types::{Bounds, IndexName, Mapping, Moment, NoMemory, Row};
 use std::alloc::Global;
 
@@ -20,8 +20,8 @@ pub struct ContextStore {
 }
 
 impl ContextStore {
-    ghost use Rattle.list_machine.specs.State.{is_live};
-    ghost use Rattle.list_machine.specs.Stores.{context_seen, view_over};
+    ghost use Rattle.list_machine.specs.State.{is_live, pit};
+    ghost use Rattle.list_machine.specs.Seen.Stores.{context_seen, view_over};
 
     /// A point in time of an index, whose shards have these rows.
     pub fn make(
@@ -32,7 +32,7 @@ impl ContextStore {
         shards: Vec<Vec<Row>>,
         expiry: u64,
     ) -> Result<ContextStore, NoMemory>
-        ensures { IfOk result (λ context. context_seen context ≡ record { number = number; view = view_over index mapping (map (λ rows. rows.items) shards.items); expiry = expiry; closed = false }) }
+        ensures { IfOk result (λ context. context_seen context ≡ pit number (view_over index mapping (map (λ rows. rows.items) shards.items)) expiry) }
     {
         let bounds = bounds_in(alloc, &mapping, &shards)?;
         Ok(ContextStore {

@@ -1,9 +1,9 @@
 ghost use Rattle.std.specs.Prelude.{◌≡◌, IfOk};
 ghost use Rattle.list_machine.specs.State.{docs, start};
-ghost use Rattle.list_machine.specs.Stores.{state_seen};
+ghost use Rattle.list_machine.specs.Seen.Stores.{state_seen};
 
 use crate::Limits;
-use crate::creating::make_index;
+use crate::steps::creating::make_index;
 use crate::store::Store;
 use es_types::{IndexName, Mapping, Moment, NoMemory, Text};
 use std::alloc::Global;

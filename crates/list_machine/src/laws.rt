@@ -1,5 +1,6 @@
 ghost use Rattle.std.specs.Prelude.{◌≡◌, ℕ, ◌≤◌, List, ◌++◌, length, filter, Option, Some, None, All, AllPairs, Contains, IsTrue};
 ghost use Rattle.std.specs.List.Sorted.{IsPermutation};
+ghost use Rattle.es_types.specs.declared.limits.TheConstants.{ALL_SHARDS};
 ghost use Rattle.es_query.specs.declared.query.Query.{Query};
 ghost use Rattle.es_sort.specs.declared.sort.SortSpec.{SortSpec};
 ghost use Rattle.slice_rule.specs.declared.slice.Slice.{Slice};
@@ -8,12 +9,13 @@ ghost use Rattle.list_machine.specs.declared.event.Limits.{Limits};
 ghost use Rattle.list_machine.specs.Pages.{Enumerates};
 ghost use Rattle.list_machine.specs.Run.{IsBounded, History, PutsObject, reply_of, state_of};
 ghost use Rattle.list_machine.specs.Sliced.{IsInOne, has_place, slice_of};
-ghost use Rattle.list_machine.specs.Stores.{IsCounted};
-ghost use Rattle.list_machine.specs.State.{HasObjects, IsSound, most_shards};
+ghost use Rattle.list_machine.specs.Seen.Stores.{IsCounted};
+ghost use Rattle.list_machine.specs.State.{HasObjects, IsSound};
 ghost use Rattle.list_machine.specs.Views.{HasPlaces, Place, View, comes_before, enumeration, found};
 
 use crate::{Event, Reply};
 use es_sort::strict_total_order;
+use es_types::fit_gives_values;
 use slice_rule::each_place_has_a_slice;
 
 /// Pages of a point in time that are taken in turn are a prefix of the sorted matching documents of its view,
@@ -55,7 +57,7 @@ pub fn sound_states()
         → All (λ (entry : Entry). PutsObject entry.event) history → HasObjects (state_of limits history) }
     // A Seal answers no more numbers than there may be shards.
     ensures sealed { (limits : Limits) (history : History) (entry : Entry) (index numbers : List ℕ)
-        → entry.event ≡ Event.Seal index → reply_of limits history entry ≡ Reply.Sealed numbers → length numbers ≤ most_shards }
+        → entry.event ≡ Event.Seal index → reply_of limits history entry ≡ Reply.Sealed numbers → length numbers ≤ ALL_SHARDS }
     // So are its numbers and sizes, by how many entries came before.
     ensures counted { (limits : Limits) (history : History)
         → All (λ (entry : Entry). IsBounded entry.event) history → IsCounted (length history) (state_of limits history) }
@@ -64,4 +66,6 @@ pub fn sound_states()
     // The moment never falls.
     ensures moments { (limits : Limits) (history more : History)
         → (state_of limits history).moment ≤ (state_of limits (history ++ more)).moment }
-{}
+{
+    fit_gives_values();
+}

@@ -1,17 +1,19 @@
 ghost use Rattle.std.specs.Prelude.{◌≡◌, ◌+◌, ◌<◌, ◌^◌, IfOk, OnOk, OnErr};
+ghost use Rattle.es_types.specs.declared.limits.TheConstants.{MOST_ENTRIES};
 ghost use Rattle.list_machine.specs.Run.{IsBounded};
 ghost use Rattle.list_machine.specs.State.{start};
 ghost use Rattle.list_machine.specs.Step.{happen, step};
-ghost use Rattle.list_machine.specs.Stores.{IsCounted, most_entries, state_seen};
+ghost use Rattle.list_machine.specs.Seen.Stores.{IsCounted, most_entries, state_seen};
 
-use crate::closing::close;
-use crate::creating::create;
 use crate::first::first_store;
-use crate::looking::{open_pit, seal};
-use crate::publishing::publish;
-use crate::searching::search;
+use crate::steps::closing::close;
+use crate::steps::creating::create;
+use crate::steps::opening::open_pit;
+use crate::steps::publishing::publish;
+use crate::steps::sealing::seal;
+use crate::steps::searching::search;
+use crate::steps::writing::write;
 use crate::store::Store;
-use crate::writing::write;
 use crate::{Entry, Event, Limits, Reply};
 use es_types::{Moment, NoMemory};
 use std::alloc::Global;
@@ -27,11 +29,11 @@ pub struct Machine {
 }
 
 impl Model for Machine {
-    ghost use Rattle.list_machine.specs.Ran.{Ran};
+    ghost use Rattle.list_machine.specs.Seen.Ran.{Ran};
 
     ghost Value = { Ran };
 
-    ghost use Rattle.list_machine.specs.Stores.{IsCounted, state_seen};
+    ghost use Rattle.list_machine.specs.Seen.Stores.{IsCounted, state_seen};
 
     ghost view = { λ machine. record { state = state_seen machine.store; entries = machine.entries } };
 
@@ -52,7 +54,7 @@ impl Machine {
 
     /// Takes the step of an entry. After `NoMemory` nothing has changed.
     pub fn step(&mut self, entry: &Entry) -> Result<Reply, NoMemory>
-        requires early { self.old.entries < 2 ^ 53 }
+        requires early { self.old.entries < MOST_ENTRIES }
         requires bounded { IsBounded entry.now.event }
         ensures reply { IfOk result (λ reply. reply ≡ (step self.old.state entry.now).1) }
         ensures state { OnOk result (self.new ≡ record { state = (step self.old.state entry.now).0; entries = self.old.entries + 1 }) }

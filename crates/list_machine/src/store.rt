@@ -1,6 +1,7 @@
 ghost use Rattle.std.specs.Prelude.{◌≡◌, ◌<◌, ◌^◌, bytes_eq, position};
+ghost use Rattle.es_types.specs.declared.limits.TheConstants.{MOST_ENTRIES};
 ghost use Rattle.list_machine.specs.Rows.{last_number as last_number_of};
-ghost use Rattle.list_machine.specs.Stores.{shard_seen};
+ghost use Rattle.list_machine.specs.Seen.Stores.{shard_seen};
 
 use crate::Limits;
 use crate::context::ContextStore;
@@ -50,7 +51,7 @@ pub fn place_of(indexes: &[IndexStore], name: &IndexName) -> Option<usize>
 
 /// The number of the last operation.
 pub fn last_number(shard: &ShardStore) -> u64
-    requires { last_number_of (shard_seen shard.now) < 2 ^ 53 }
+    requires { last_number_of (shard_seen shard.now) < MOST_ENTRIES }
     ensures { result ≡ last_number_of (shard_seen shard.now) }
 {
     shard.base + shard.pending.len() as u64

@@ -1,6 +1,6 @@
 -- The references so far are to the shards so far.
 use Rattle.std.proofs.Common.{◌≡◌, map, take}
-use Rattle.list_machine.specs.declared.view.ShardRef.{ShardRef}
+use Rattle.list_machine.specs.declared.page.view.ShardRef.{ShardRef}
 use Rattle.context_book.specs.Shards.{bounds_in, rows_of_each}
 use Rattle.context_book.proofs.view.refs_of.Given as goal
 

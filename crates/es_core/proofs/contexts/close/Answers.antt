@@ -1,7 +1,7 @@
 use Rattle.std.proofs.Common.{ℕ, ap, length, min, ◌∙◌}
 use Rattle.std.specs.List.{sum_by}
 use Rattle.context_book.specs.Books.{is_kept}
-use Rattle.es_core.proofs.Lending.{lends_parted}
+use Rattle.es_core.proofs.Lending.{lent_parted}
 use Rattle.es_core.proofs.Searches.{freed_seen, part_numbers}
 use Rattle.es_core.proofs.contexts.close.Goals as goal
 
@@ -15,5 +15,5 @@ pub returns-clause-numbers : goal.returns-clause-numbers
 returns-clause-numbers c next below =
     part_numbers next (is_kept c.args.moment c.args.which.now) c.args.book.now c.close.new.self c.close.result c.close.ensures.kept c.close.ensures.err below
 
-pub returns-clause-lends : goal.returns-clause-lends
-returns-clause-lends c = lends_parted (is_kept c.args.moment c.args.which.now) c.args.book.now c.close.new.self c.close.result c.close.ensures.kept c.close.ensures.err
+pub returns-clause-lent : goal.returns-clause-lent
+returns-clause-lent c n all = lent_parted n (is_kept c.args.moment c.args.which.now) c.args.book.now c.close.new.self c.close.result c.close.ensures.kept c.close.ensures.err all

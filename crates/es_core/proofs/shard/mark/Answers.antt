@@ -2,7 +2,7 @@ use Rattle.std.proofs.Common.{◌≡◌, false, List, ℕ, bytes_eq, not, ◌&&�
 use Rattle.std.specs.BTreeSet.{contains_text}
 use Rattle.std.proofs.lemmas.Map.Text.{btree_set_updates_text}
 use Rattle.es_types.specs.declared.row.Op.{Op}
-use Rattle.es_core.specs.Standing.{stands_after}
+use Rattle.list_machine.specs.Seen.Standing.{stands_after}
 use Rattle.es_core.proofs.StandingLemmas.{cond-and}
 use Rattle.es_core.proofs.shard.mark.Goals as goal
 

@@ -1,4 +1,4 @@
-use Rattle.list_machine.proofs.Turns.{enumerates}
+use Rattle.list_machine.proofs.PagesInTurn.{enumerates}
 use Rattle.list_machine.proofs.laws.pages_in_turn.Goals as goal
 
 pub returns : goal.returns

@@ -1,5 +1,5 @@
 use Rattle.std.proofs.Common.{subst}
-use Rattle.list_machine.specs.Stores.{IsCountable}
+use Rattle.list_machine.specs.Seen.Stores.{IsCountable}
 use Rattle.context_book.proofs.Small.{countable}
 use Rattle.context_book.proofs.view.View.shards.Goals as goal
 

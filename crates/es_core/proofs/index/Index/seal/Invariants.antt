@@ -1,6 +1,6 @@
 -- The numbers so far are those of the shards so far.
 use Rattle.std.proofs.Common.{◌≡◌, map, take}
-use Rattle.es_core.specs.Indexes.{sealed}
+use Rattle.es_core.specs.Shards.{sealed}
 use Rattle.es_core.proofs.index.Index.seal.Given as goal
 
 abbrev pub invariant-loop-shard : goal.invariant-loop-shard

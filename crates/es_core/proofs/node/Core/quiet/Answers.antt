@@ -10,7 +10,6 @@ pub invariant_of-self-2 : goal.invariant_of-self-2
 invariant_of-self-2 c =
     let core = c.args.self.now in
     record {
-      placed = core.placed;
       issued = subst (λ (book : Book). All (λ (context : Context). context.number < core.next) book.contexts) (sym c.in_ok-do_chore.ensures.left)
           (left_numbers core.next c.args.chore c.later-later.result core.book.contexts core.issued);
       limited = ap (λ (book : Book). book.limit) c.in_ok-do_chore.ensures.left ∙ core.limited;

@@ -3,7 +3,7 @@ use Rattle.std.proofs.lemmas.Bool.{leb-false}
 use Rattle.es_types.specs.declared.row.Op.{Op}
 use Rattle.list_machine.specs.Rows.{apply_all, has_id}
 use Rattle.list_machine.specs.Step.{is_full}
-use Rattle.es_core.specs.Standing.{stands_after}
+use Rattle.list_machine.specs.Seen.Standing.{stands_after}
 use Rattle.es_core.proofs.StandingLemmas.{has_id-push}
 use Rattle.es_core.proofs.shard.Shard.append.Goals as goal
 

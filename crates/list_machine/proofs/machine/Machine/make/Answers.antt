@@ -1,6 +1,6 @@
 use Rattle.std.proofs.Common.{subst, sym}
 use Rattle.list_machine.specs.State.{State}
-use Rattle.list_machine.specs.Stores.{IsCounted}
+use Rattle.list_machine.specs.Seen.Stores.{IsCounted}
 use Rattle.list_machine.proofs.CountLemmas.{IsCounted-start}
 use Rattle.list_machine.proofs.machine.Machine.make.Goals as goal
 

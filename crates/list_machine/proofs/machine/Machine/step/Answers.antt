@@ -1,6 +1,6 @@
 use Rattle.std.proofs.Common.{◌+◌, ap, subst}
 use Rattle.list_machine.specs.State.{State}
-use Rattle.list_machine.specs.Stores.{IsCounted, state_seen}
+use Rattle.list_machine.specs.Seen.Stores.{IsCounted, state_seen}
 use Rattle.list_machine.proofs.CountLemmas.{IsCounted-step}
 use Rattle.list_machine.proofs.machine.Machine.step.Goals as goal
 

@@ -1,0 +1,11 @@
+use Rattle.std.proofs.Common.{sym, ap, ◌∙◌, arith}
+use Rattle.list_machine.specs.declared.context.ContextStore.{ContextStore}
+use Rattle.list_machine.specs.Seen.Stores.{context_seen, contexts_seen, raised}
+use Rattle.list_machine.proofs.StoreLemmas.{changed_upto}
+use Rattle.list_machine.proofs.steps.keeping.raise.Goals as goal
+
+pub loop-context-preserved : goal.loop-context-preserved
+loop-context-preserved c =
+    let to = raised c.args.number c.args.till in
+    changed_upto context_seen to (contexts_seen c.args.contexts.now.items) c.loop-context.context-items c.loop-context.context-index c.context-item.result c.raise_one.new.context
+    (omega arith) c.loop-context.invariant c.context-item.is (c.raise_one.ensures ∙ ap (λ (it : ContextStore). to (context_seen it)) (sym c.context-item.is))
