@@ -1,5 +1,5 @@
 -- Two runs over the same requests give the same responses, whatever Quiets stand beside what was asked.
-use Rattle.std.proofs.Common.{◌≡◌, refl, sym, ap, ap₂, subst, ◌∙◌, ⊎_elim, ℕ, ◌+◌, ◌*◌, List, [], ◌∷◌, None, Result, Ok, Err}
+use Rattle.std.proofs.Common.{◌≡◌, refl, sym, ap, ap₂, subst, ◌∙◌, ⊎_elim, Bool, true, false, ℕ, ◌+◌, ◌*◌, List, [], ◌∷◌, None, Result, Ok, Err}
 use Rattle.std.specs.Prelude.{◌≢◌}
 use Rattle.std.proofs.lemmas.List.Elements.{All-head, All-tail}
 use Rattle.std.proofs.lemmas.Option.{same_Some, none-some}
@@ -17,9 +17,9 @@ use Rattle.reply_json.specs.declared.fault.RestFault.TheVariants as fault
 use Rattle.reply_json.specs.declared.response.Response.{Response}
 use Rattle.reply_json.specs.declared.response.Response.TheVariants.{Fault}
 use Rattle.es_rest.specs.Headline.{NeverFalls, requests_of}
-use Rattle.es_node.specs.Repeats.{NeverWants, ServesAlone, moments_of}
+use Rattle.es_node.specs.Repeats.{NeverWants, ServesAlone, moments_of, responses_of}
 use Rattle.es_rest.specs.Scripts.{Part, Script, Talks}
-use Rattle.es_rest.specs.Talk.{Conversation, Exchange, Responds, Served, Serves, response_of, script_of}
+use Rattle.es_rest.specs.Talk.{Conversation, Exchange, Responds, Served, Serves, Tended, response_of, script_of}
 use Rattle.es_node.proofs.AtMoment.{alike_later, state_at}
 use Rattle.es_node.proofs.Grown.{Fits, Grew, asked_comes, asked_grew, beside_grew, beside_passes, fits_before, grew_not, grew_on}
 
@@ -150,11 +150,16 @@ responds_alike limits moment old past new other request response said alike ampl
 abbrev HadMemory : Exchange → Type 0
 HadMemory x = x.response ≢ Fault fault.NoMemory
 
+tended_grew : (limits : Limits) (moment : ℕ) (written : Bool) (old new : History) → Tended limits 0 moment written old new → Grew old new
+tended_grew limits moment true old new h =
+    grew_on old h.helped new (beside_grew 0 4 moment old h.helped h.helps)
+    (beside_grew 0 (4 + 2 * applied (state_of limits h.helped)) moment h.helped new h.tidies)
+tended_grew limits moment false old new same = grew_not old new same
+
 served_grew : (limits : Limits) (old new : History) (x : Exchange) → HadMemory x → Served limits 0 old new x → Grew old new
 served_grew limits old new x ample h =
     grew_on old h.answered new (responds_grew limits x.moment old h.answered x.request x.response ample h.responds)
-    (grew_on h.answered h.helped new (beside_grew 0 4 x.moment h.answered h.helped h.helps)
-    (beside_grew 0 (4 + 2 * applied (state_of limits h.helped)) x.moment h.helped new h.tidies))
+    (tended_grew limits x.moment x.written h.answered new h.tended)
 
 serves_grew : (limits : Limits) (old new : History) (served : List Exchange) → NeverWants served → Serves limits 0 old new served
     → Grew old new
@@ -163,49 +168,44 @@ serves_grew limits old new (x ∷ served) ample h =
     grew_on old h.0 new (served_grew limits old h.0 x (All-head HadMemory x served ample) h.1)
     (serves_grew limits h.0 new served (All-tail HadMemory x served ample) h.2)
 
-exchange_same : (x y : Exchange) → x.request ≡ y.request → x.moment ≡ y.moment → x.response ≡ y.response → x ≡ y
-exchange_same x y a b c =
-    ap (λ (q : Request). let e : Exchange = record { request = q; moment = x.moment; response = x.response } in e) a
-    ∙ (ap (λ (m : ℕ). let e : Exchange = record { request = y.request; moment = m; response = x.response } in e) b
-    ∙ ap (λ (r : Response). let e : Exchange = record { request = y.request; moment = y.moment; response = r } in e) c)
-
 -- help and tidying leave what the moment finds
-tidied : (limits : Limits) (old new : History) (x : Exchange) → Fits limits new → (h : Served limits 0 old new x)
-    → Fits limits h.answered × (state_at limits new x.moment ≡ state_at limits h.answered x.moment)
-tidied limits old new x fits h =
+tidied : (limits : Limits) (moment : ℕ) (written : Bool) (old new : History) → Fits limits new → Tended limits 0 moment written old new
+    → Fits limits old × (state_at limits new moment ≡ state_at limits old moment)
+tidied limits moment true old new fits h =
     let fit = fits_before limits h.helped new
-    (beside_grew 0 (4 + 2 * applied (state_of limits h.helped)) x.moment h.helped new h.tidies) fits in (
-      fits_before limits h.answered h.helped (beside_grew 0 4 x.moment h.answered h.helped h.helps) fit,
-      beside_passes limits (4 + 2 * applied (state_of limits h.helped)) x.moment h.helped new fits.own h.tidies
-          ∙ beside_passes limits 4 x.moment h.answered h.helped fit.own h.helps,
+    (beside_grew 0 (4 + 2 * applied (state_of limits h.helped)) moment h.helped new h.tidies) fits in (
+      fits_before limits old h.helped (beside_grew 0 4 moment old h.helped h.helps) fit,
+      beside_passes limits (4 + 2 * applied (state_of limits h.helped)) moment h.helped new fits.own h.tidies
+          ∙ beside_passes limits 4 moment old h.helped fit.own h.helps,
     )
+tidied limits moment false old new fits same =
+    (subst (Fits limits) same fits, ap (λ (l : History). state_at limits l moment) same)
 
 -- one request at one moment
 served_alike : (limits : Limits) (old past new other : History) (x y : Exchange) → AreAlike limits x.moment old past
     → x.request ≡ y.request → y.moment ≡ x.moment
     → HadMemory x → HadMemory y → Fits limits new → Fits limits other → Served limits 0 old new x → Served limits 0 past other y
-    → AreAlike limits x.moment new other × (x ≡ y)
+    → AreAlike limits x.moment new other × (x.response ≡ y.response)
 served_alike limits old past new other x y alike request moment ample enough fits fit h k =
-    let one = tidied limits old new x fits h in
-    let two = tidied limits past other y fit k in
+    let one = tidied limits x.moment x.written h.answered new fits h.tended in
+    let two = tidied limits y.moment y.written k.answered other fit k.tended in
     let last : state_at limits other x.moment ≡ state_at limits k.answered x.moment
     = subst (λ (m : ℕ). state_at limits other m ≡ state_at limits k.answered m) moment two.1 in
     let responds : Responds limits 0 x.moment past k.answered x.request y.response
     = subst (λ (m : ℕ). Responds limits 0 m past k.answered x.request y.response) moment
     (subst (λ (q : Request). Responds limits 0 y.moment past k.answered q y.response) (sym request) k.responds) in
     let both = responds_alike limits x.moment old past h.answered k.answered x.request x.response y.response alike ample enough
-    one.0 two.0 h.responds responds in (
-      one.1 ∙ (both.0 ∙ sym last),
-      exchange_same x y request (sym moment) both.1,
-    )
+    one.0 two.0 h.responds responds in
+    (one.1 ∙ (both.0 ∙ sym last), both.1)
 
-first_same : {A : Type 0} (x y : A) (xs ys : List A) → x ∷ xs ≡ y ∷ ys → x ≡ y
+-- the parts of a list that is not empty
+pub first_same : {A : Type 0} (x y : A) (xs ys : List A) → x ∷ xs ≡ y ∷ ys → x ≡ y
 first_same x y xs ys e = cc
 
-others_same : {A : Type 0} (x y : A) (xs ys : List A) → x ∷ xs ≡ y ∷ ys → xs ≡ ys
+pub others_same : {A : Type 0} (x y : A) (xs ys : List A) → x ∷ xs ≡ y ∷ ys → xs ≡ ys
 others_same x y xs ys e = cc
 
-no_first : {A : Type 0} (x : A) (xs : List A) → x ∷ xs ≡ [] → ⊥
+pub no_first : {A : Type 0} (x : A) (xs : List A) → x ∷ xs ≡ [] → ⊥
 no_first x xs e = cc
 
 -- the same requests at moments that never fall
@@ -213,7 +213,8 @@ serves_alike : (limits : Limits) (from : ℕ) (old past new other : History) (se
     → AreAlike limits from old past
     → NeverFalls from served → NeverWants served → NeverWants others
     → Fits limits new → Fits limits other → Serves limits 0 old new served → Serves limits 0 past other others
-    → requests_of served ≡ requests_of others → moments_of served ≡ moments_of others → served ≡ others
+    → requests_of served ≡ requests_of others → moments_of served ≡ moments_of others
+    → responses_of served ≡ responses_of others
 serves_alike limits from old past new other [] [] alike rises ample enough fits fit h k requests moments = refl
 serves_alike limits from old past new other [] (y ∷ others) alike rises ample enough fits fit h k requests moments =
     absurd (no_first _ _ (sym requests))
@@ -232,11 +233,12 @@ serves_alike limits from old past new other (x ∷ served) (y ∷ others) alike 
     let later = serves_alike limits x.moment h.0 k.0 new other served others first.0 rises.1 rich richer fits fit h.2 k.2
     (others_same x.request y.request (requests_of served) (requests_of others) requests)
     (others_same x.moment y.moment (moments_of served) (moments_of others) moments) in
-    ap₂ (λ (e : Exchange) (l : List Exchange). e ∷ l) first.1 later
+    ap₂ (λ (r : Response) (l : List Response). r ∷ l) first.1 later
 
 pub same_responses : (limits : Limits) (history other : History) (served others : List Exchange)
     → ServesAlone limits history served → ServesAlone limits other others
-    → requests_of served ≡ requests_of others → moments_of served ≡ moments_of others → served ≡ others
+    → requests_of served ≡ requests_of others → moments_of served ≡ moments_of others
+    → responses_of served ≡ responses_of others
 same_responses limits history other served others h k =
     serves_alike limits 0 [] [] history other served others refl h.never_fall h.ample k.ample
     (record { own = h.own; room = h.room }) (record { own = k.own; room = k.room }) h.serves k.serves

@@ -1,7 +1,9 @@
 -- Whole inputs, and two runs over one input.
-use Rattle.std.proofs.Common.{◌≡◌, refl, sym, ap, ap₂, subst, ◌∙◌, inl, inr, ⊎_elim, ℕ, List, ◌++◌, take, Option, Some, None, arith}
+use Rattle.std.proofs.Common.{◌≡◌, refl, sym, ap, ap₂, subst, ◌∙◌, inl, inr, ⊎_elim, ℕ, List, [], ◌∷◌, ◌++◌, take, Option, Some, None, arith}
+use Rattle.es_types.specs.declared.limits.TheConstants.{CONNECTION_BYTES}
 use Rattle.es_outside.specs.Told.{Rose}
-use Rattle.http_wire.specs.Requests.{IsEnd, connection_limit}
+use Rattle.http_wire.specs.declared.request.Request.{Request}
+use Rattle.http_wire.specs.Requests.{IsEnd}
 use Rattle.http_wire.proofs.OneHead.{ends_apart, spells_one}
 use Rattle.es_rest.specs.declared.connection.ConnEnd.{ConnEnd}
 use Rattle.es_rest.specs.declared.connection.ConnEnd.TheVariants as end
@@ -9,11 +11,13 @@ use Rattle.es_node.specs.declared.run.Status.{Status}
 use Rattle.es_node.specs.declared.run.Status.TheVariants.{Done, ReadFault, WriteFault}
 use Rattle.es_rest.specs.Headline.{EndsWith, WroteWords, requests_of, texts_of, last_words}
 use Rattle.es_rest.specs.Moments.{moments_of as clock_moments}
-use Rattle.es_node.specs.Repeats.{Completes, EndsItself, HasRoom, NeverWants, ServesAlone, moments_of}
+use Rattle.es_node.specs.Repeats.{Completes, EndsItself, HasRoom, NeverWants, ServesAlone, moments_of, responses_of}
 use Rattle.es_node.specs.Running.{Replays, ServedOne, end_status, limits}
 use Rattle.es_rest.specs.Talk.{Exchange}
+use Rattle.reply_json.specs.declared.response.Response.{Response}
+use Rattle.reply_json.specs.Replies.{text}
 use Rattle.es_rest.proofs.Whole.{which_end}
-use Rattle.es_node.proofs.Alike.{same_responses}
+use Rattle.es_node.proofs.Alike.{first_same, no_first, others_same, same_responses}
 
 -- a run over a whole input
 completes_one : (bytes : List ℕ) (after written now : Option (List ℕ)) (reads reads_after writes writes_after : ℕ) (status : Status)
@@ -120,6 +124,20 @@ served_alone one ample room =
       ample = ample;
     }
 
+-- the same responses to the same requests have the same texts
+texts_same : (served others : List Exchange) → requests_of served ≡ requests_of others → responses_of served ≡ responses_of others
+    → texts_of served ≡ texts_of others
+texts_same [] [] requests responses = refl
+texts_same [] (y ∷ others) requests responses = absurd (no_first _ _ (sym requests))
+texts_same (x ∷ served) [] requests responses = absurd (no_first _ _ requests)
+texts_same (x ∷ served) (y ∷ others) requests responses =
+    ap₂ (λ (first rest : List ℕ). first ++ rest)
+    (ap₂ (λ (r : Response) (q : Request). text r q.last)
+    (first_same x.response y.response (responses_of served) (responses_of others) responses)
+    (first_same x.request y.request (requests_of served) (requests_of others) requests))
+    (texts_same served others (others_same x.request y.request (requests_of served) (requests_of others) requests)
+    (others_same x.response y.response (responses_of served) (responses_of others) responses))
+
 pub same_bytes : (bytes written : List ℕ) (left after now later : Option (List ℕ)) (status ended : Status)
     (one : ServedOne (Some bytes) left (Some written) now status)
     (other : ServedOne (Some bytes) after (Some written) later ended)
@@ -133,7 +151,7 @@ same_bytes bytes written left after now later status ended one other ample enoug
     let k = other.headline.reads.0 in
     let served = one.headline.served in
     let others = other.headline.served in
-    let cut = spells_one (take connection_limit bytes) (requests_of served) (requests_of others) h.rest k.rest
+    let cut = spells_one (take CONNECTION_BYTES bytes) (requests_of served) (requests_of others) h.rest k.rest
     h.spells (is_end bytes h.rest one.end i h.ends) k.spells (is_end bytes k.rest other.end j k.ends) in
     let end_is : one.end ≡ other.end = one_end bytes k.rest one.end other.end i j
     (subst (λ (l : List ℕ). EndsWith bytes l one.end) cut.1 h.ends) k.ends in
@@ -141,9 +159,10 @@ same_bytes bytes written left after now later status ended one other ample enoug
     = one.headline.moments.told ∙ (ap (clock_moments 0 0) cut.0 ∙ sym other.headline.moments.told) in
     let same = same_responses limits one.history other.history served others
     (served_alone one ample room) (served_alone other enough free)
-    cut.0 moments in (
+    cut.0 moments in
+    let texts = texts_same served others cut.0 same in (
       wrote_all _ _ written now served one.end i one.headline.writes
-          ∙ ap₂ (λ (l : List Exchange) (e : ConnEnd). Some (written ++ (texts_of l ++ last_words e))) same end_is
+          ∙ ap₂ (λ (l : List ℕ) (e : ConnEnd). Some (written ++ (l ++ last_words e))) texts end_is
           ∙ sym (wrote_all _ _ written later others other.end j other.headline.writes),
       one.status_is ∙ ap end_status end_is ∙ sym other.status_is,
     )

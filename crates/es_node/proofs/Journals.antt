@@ -1,8 +1,10 @@
 -- The journal of a service with one caller.
-use Rattle.std.proofs.Common.{◌≡◌, MatchResult, Result, Ok, Err, refl, sym, ap, subst, ◌∙◌, inl, inr, ℕ, ◌+◌, ◌<◌, ◌≤◌, [], ◌∷◌, ◌++◌, length, arith, length-append}
+use Rattle.std.proofs.Common.{◌≡◌, MatchResult, Result, Ok, Err, refl, sym, ap, subst, ◌∙◌, inl, inr, ℕ, ◌+◌, ◌<◌, ◌≤◌, max, List, [], ◌∷◌, ◌++◌, length, filter, Bool, true, cond, arith, length-append}
 use Rattle.std.specs.Prelude.{IfOk, OnOk, OnErr, count_by, ◌≢◌, ◌==◌}
-use Rattle.std.proofs.lemmas.List.{append-nil}
-use Rattle.std.proofs.lemmas.List.Elements.{All-nil, All-cons, All-append}
+use Rattle.std.proofs.lemmas.Bool.Decides.{nat_tests}
+use Rattle.std.proofs.lemmas.List.{append-nil, length-map}
+use Rattle.std.proofs.lemmas.List.Sums.{length-filter}
+use Rattle.std.proofs.lemmas.List.Elements.{All-nil, All-cons, All-append, All-map, filter_passes}
 use Rattle.list_machine.specs.declared.event.Entry.{Entry}
 use Rattle.list_machine.specs.declared.event.Event.{Event}
 use Rattle.list_machine.specs.declared.event.Event.TheVariants.{Create, Write, Seal, Publish, OpenPit, Search, Close, Quiet}
@@ -10,10 +12,17 @@ use Rattle.list_machine.specs.declared.event.Change.TheVariants.{Put, Remove}
 use Rattle.list_machine.specs.declared.event.Limits.{Limits}
 use Rattle.list_machine.specs.declared.event.Reply.{Reply}
 use Rattle.list_machine.specs.declared.event.Reply.TheVariants.{Spent}
-use Rattle.list_machine.specs.Run.{History, reply_of, IsBounded, PutsObject}
+use Rattle.context_book.specs.declared.context.Context.{Context as Kept}
+use Rattle.context_book.specs.Books.{lives, seen}
+use Rattle.list_machine.specs.State.{Context, State, is_live, live_contexts, start}
+use Rattle.list_machine.specs.Run.{History, reply_of, state_of, IsBounded, PutsObject}
+use Rattle.list_machine.proofs.Beyond.{filter_all}
+use Rattle.list_machine.proofs.Runs.{run-append}
 use Rattle.list_machine.specs.Serving.{Adds, Asked, Beside, GrowsBeside, IsAskable, IsKept, MayHaveAsked, asked, asking, besides}
 use Rattle.es_core.specs.declared.node.Core.{Core}
 use Rattle.es_core.specs.declared.turned.Turned.{Turned}
+use Rattle.es_core.specs.declared.turned.Chore.TheVariants.{Reap}
+use Rattle.es_core.specs.Contexts.{contexts_seen, left_by}
 use Rattle.es_core.specs.Plans.{turned_reply}
 use Rattle.es_core.specs.Stands.{Rests, Stands, StandsOn}
 use Rattle.es_node.specs.Solo.{Advances, IsOwn, IsRunning, rest}
@@ -155,3 +164,65 @@ rests_beside most moment history now (Ok done) grows stays =
     record { more = rest moment ∷ []; grows = grows; beside = beside_one most moment }
 rests_beside most moment history now (Err e) grows stays =
     subst (λ (l : History). GrowsBeside 0 (4 + most) moment history l) (sym stays) (grows_not 0 (4 + most) moment history)
+
+-- ---- the contexts that the book holds
+
+-- each is live at the first moment
+live_first : (context : Kept) → is_live 0 (seen context) ≡ true
+live_first context = grind (arith, nat_tests)
+
+-- so where none is, there is none
+no_contexts : (contexts : List Kept) → filter (is_live 0) (contexts_seen contexts) ≡ [] → length contexts ≡ 0
+no_contexts [] none = refl
+no_contexts (context ∷ contexts) none =
+    let rest : List Context = filter (is_live 0) (contexts_seen contexts) in
+    let shown : filter (is_live 0) (contexts_seen (context ∷ contexts)) ≡ seen context ∷ rest = ap (λ (b : Bool). cond b (seen context ∷ rest) rest) (live_first context) in
+    let both : seen context ∷ rest ≡ [] = sym shown ∙ none in
+    cc
+
+pub none_kept : (limits : Limits) (core : Core) → Stands limits core [] → length core.book.contexts ≡ 0
+none_kept limits core stands = no_contexts core.book.contexts (stands.contexts 0 (omega arith))
+
+-- those that are left as they are live, the machine has as live
+left_live : (moment : ℕ) (contexts : List Kept) → length (filter (is_live moment) (contexts_seen (filter (lives moment) contexts))) ≡ length (filter (lives moment) contexts)
+left_live moment contexts =
+    let left = filter (lives moment) contexts in
+    ap (λ (l : List Context). length l) (filter_all (is_live moment) (contexts_seen left)
+    (All-map (λ (it : Context). is_live moment it ≡ true) seen left (filter_passes (lives moment) contexts)))
+    ∙ length-map left seen
+
+-- a tidying goes on to its moment, where that is later
+moment_after : (limits : Limits) (history : History) (moment : ℕ)
+    → (state_of limits (history ++ rest moment ∷ [])).moment ≡ max (state_of limits history).moment moment
+moment_after limits history moment = ap (λ (s : State). s.moment) (run-append history (rest moment ∷ []) (start limits))
+
+-- a book that holds what a reaping left holds as many as are live
+reaped : (limits : Limits) (moment : ℕ) (old new : Core) (history now : History) → IsRunning limits old history
+    → length history < limits.entries → Rests old new moment
+    → new.book.contexts ≡ left_by Reap (max old.moment moment) old.book.contexts → now ≡ history ++ rest moment ∷ []
+    → length new.book.contexts ≡ live_contexts (state_of limits now)
+reaped limits moment old new history now running room rests left grows =
+    let after = history ++ rest moment ∷ [] in
+    let state = state_of limits after in
+    let at : state.moment ≡ max old.moment moment
+    = moment_after limits history moment ∙ ap (λ (m : ℕ). max m moment) (sym running.stands.moment) in
+    let stands : Stands limits new after = rests limits history 1 running.stands (room_left limits history running.kept room) in
+    let book : new.book.contexts ≡ filter (lives state.moment) old.book.contexts
+    = left ∙ ap (λ (m : ℕ). filter (lives m) old.book.contexts) (sym at) in
+    let live : length (filter (is_live state.moment) (contexts_seen new.book.contexts)) ≡ length new.book.contexts
+    = subst (λ (l : List Kept). length (filter (is_live state.moment) (contexts_seen l)) ≡ length l) (sym book)
+    (left_live state.moment old.book.contexts) in
+    let same : length (filter (is_live state.moment) (contexts_seen new.book.contexts)) ≡ live_contexts state
+    = ap (λ (l : List Context). length l) (stands.contexts state.moment (omega arith))
+    ∙ length-filter (is_live state.moment) state.contexts in
+    sym live ∙ (same ∙ ap (λ (l : History). live_contexts (state_of limits l)) (sym grows))
+
+-- and so does the service, where the tidying came to its end
+pub reaps : (limits : Limits) (moment : ℕ) (old new : Core) (history now : History) {E : Type 0} (r : Result (Unit {0}) E)
+    → IsRunning limits old history → length history < limits.entries → OnOk r (Rests old new moment)
+    → OnOk r (new.book.contexts ≡ left_by Reap (max old.moment moment) old.book.contexts)
+    → OnOk r (now ≡ history ++ rest moment ∷ [])
+    → OnOk r (length now < limits.entries → length new.book.contexts ≡ live_contexts (state_of limits now))
+reaps limits moment old new history now (Ok done) running room rests left grows =
+    λ fits. reaped limits moment old new history now running room rests left grows
+reaps limits moment old new history now (Err e) running room rests left grows = tt

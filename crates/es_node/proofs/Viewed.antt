@@ -2,7 +2,7 @@
 use Rattle.std.proofs.Common.{◌≡◌, ℕ, List, ap, ◌∙◌}
 use Rattle.es_types.specs.declared.mapping.Field.{Field}
 use Rattle.es_types.specs.declared.row.Row.{Row}
-use Rattle.list_machine.specs.Stores.{view_over}
+use Rattle.list_machine.specs.Seen.Stores.{view_over}
 use Rattle.list_machine.specs.Views.{View}
 
 -- a view is what its parts are

@@ -1,13 +1,15 @@
 -- What is said of a whole input, and of two runs over one input.
 use Rattle.std.specs.Prelude.{◌≡◌, ◌≢◌, ◌⊎◌, ℕ, ◌<◌, ◌≤◌, List, [], length, map, Option, Some, None, All}
+use Rattle.es_types.specs.declared.limits.TheConstants.{CONNECTION_BYTES}
 use Rattle.es_outside.specs.Told.{Rose}
 use Rattle.http_wire.specs.declared.request.Request.{Request}
-use Rattle.http_wire.specs.Requests.{Spells, connection_limit}
+use Rattle.http_wire.specs.Requests.{Spells}
 use Rattle.list_machine.specs.declared.event.Limits.{Limits}
 use Rattle.list_machine.specs.Run.{History}
 use Rattle.list_machine.specs.Serving.{IsKept}
 use Rattle.es_node.specs.declared.run.Status.{Status}
 use Rattle.es_node.specs.declared.run.Status.TheVariants.{Done, Refused, NoMemory, Truncated, TooMuch}
+use Rattle.reply_json.specs.declared.response.Response.{Response}
 use Rattle.reply_json.specs.declared.response.Response.TheVariants.{Fault}
 use Rattle.reply_json.specs.declared.fault.RestFault.TheVariants as fault
 use Rattle.es_rest.specs.Talk.{Exchange, Serves}
@@ -26,7 +28,7 @@ abbrev pub Completes : Option (List ℕ) → Option (List ℕ) → Option (List 
     → Type 0
 Completes None after written now reads reads_after writes writes_after status = Unit {0}
 Completes (Some bytes) after written now reads reads_after writes writes_after status =
-    (requests : List Request) → Spells bytes requests [] → length bytes ≤ connection_limit
+    (requests : List Request) → Spells bytes requests [] → length bytes ≤ CONNECTION_BYTES
     → (Rose reads reads_after → ⊥) → (Rose writes writes_after → ⊥)
     → (status ≡ NoMemory) ⊎ ((status ≡ Done) × AnswersAll requests (Some bytes) after written now)
 
@@ -34,6 +36,9 @@ Completes (Some bytes) after written now reads reads_after writes writes_after s
 
 abbrev pub moments_of : List Exchange → List ℕ
 moments_of served = map (λ (x : Exchange). x.moment) served
+
+abbrev pub responses_of : List Exchange → List Response
+responses_of served = map (λ (x : Exchange). x.response) served
 
 -- no response is the one that memory is wanting
 abbrev pub NeverWants : List Exchange → Type 0

@@ -1,5 +1,6 @@
 -- What a run of the command `replay` does.
 use Rattle.std.specs.Prelude.{◌≡◌, ◌⊎◌, ℕ, Bool, false, bytes_eq, List, [], ◌∷◌, Option, Some, codes}
+use Rattle.es_types.specs.declared.limits.TheConstants.{MOST_ENTRIES, USUAL_PITS}
 use Rattle.list_machine.specs.declared.event.Limits.{Limits}
 use Rattle.list_machine.specs.Run.{History}
 use Rattle.list_machine.specs.Serving.{IsKept}
@@ -36,7 +37,7 @@ end_status end.Truncated = Truncated
 end_status end.TooMuch = TooMuch
 
 abbrev pub limits : Limits
-limits = record { pits = 500; entries = 9007199254740992 }
+limits = record { pits = USUAL_PITS; entries = MOST_ENTRIES }
 
 -- One connection was served, from an empty history and by entries of its own seat alone, which were not too many.
 -- The clock's answer before was 0.

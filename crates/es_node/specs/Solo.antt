@@ -1,5 +1,6 @@
--- A service with one caller, as contracts see it: its limits, and the history so far.
+-- A service with one caller, as contracts see it: its limits, the history so far, and how many contexts the book of its core holds.
 use Rattle.std.specs.Prelude.{◌≡◌, ◌⊎◌, ℕ, ◌<◌, List, [], ◌∷◌, ◌++◌, length, All}
+use Rattle.es_types.specs.declared.limits.TheConstants.{MOST_ENTRIES}
 use Rattle.list_machine.specs.declared.event.Entry.{Entry}
 use Rattle.list_machine.specs.declared.event.Event.TheVariants.{Quiet}
 use Rattle.list_machine.specs.declared.event.Limits.{Limits}
@@ -13,6 +14,7 @@ use Rattle.es_core.specs.Stands.{Stands}
 pub record Journal : Type 0 where
   pub limits : Limits
   pub history : List Entry
+  pub kept : ℕ
 
 -- it was asked by the seat of number 0, or is a Quiet that nobody asked that seat for
 abbrev pub IsOwn : Entry → Type 0
@@ -28,7 +30,7 @@ rest moment = record { who = 1; moment = moment; event = Quiet }
 -- whatever history the core stood for, it now stands for that and the entry, and this answers the machine's reply
 abbrev pub Advances : Core → Core → Entry → Turned → Type 0
 Advances old new entry turned =
-    (limits : Limits) (history : History) → Stands limits old history → length history < 9007199254740992
+    (limits : Limits) (history : History) → Stands limits old history → length history < MOST_ENTRIES
     → Stands limits new (history ++ entry ∷ []) × (turned_reply turned ≡ reply_of limits history entry)
 
 -- the core stands for the history

@@ -3,7 +3,7 @@ ghost use Rattle.list_machine.specs.declared.event.Limits.{Limits};
 ghost use Rattle.list_machine.specs.Run.{History};
 ghost use Rattle.es_node.specs.declared.run.Status.{Status};
 ghost use Rattle.es_rest.specs.Headline.{requests_of};
-ghost use Rattle.es_node.specs.Repeats.{EndsItself, HasRoom, NeverWants, ServesAlone, moments_of};
+ghost use Rattle.es_node.specs.Repeats.{EndsItself, HasRoom, NeverWants, ServesAlone, moments_of, responses_of};
 ghost use Rattle.es_node.specs.Running.{ServedOne, limits};
 ghost use Rattle.es_rest.specs.Talk.{Exchange};
 
@@ -14,7 +14,7 @@ pub fn one_answer()
     ensures responses { (limits : Limits) (history other : History) (served others : List Exchange)
         → ServesAlone limits history served → ServesAlone limits other others
         → requests_of served ≡ requests_of others → moments_of served ≡ moments_of others
-        → served ≡ others }
+        → responses_of served ≡ responses_of others }
     ensures bytes { (bytes written : List ℕ) (left after now later : Option (List ℕ)) (status ended : Status)
         (one : ServedOne (Some bytes) left (Some written) now status)
         (other : ServedOne (Some bytes) after (Some written) later ended)

@@ -6,7 +6,7 @@ ghost use Rattle.es_node.specs.Running.{Replays, end_status, is_replay, status_c
 use crate::solo::Solo;
 use es_outside::{Pair, ReplayClock, Sink, Source};
 use es_rest::{ConnEnd, serve_connection};
-use es_types::Text;
+use es_types::{MOST_ENTRIES, Text, USUAL_PITS};
 use list_machine::Limits;
 use std::alloc::Global;
 
@@ -46,10 +46,10 @@ impl Status {
     }
 }
 
-/// At most 500 live points in time, and 2^53 entries.
+/// The limits of a command that says none.
 const LIMITS: Limits = Limits {
-    pits: 500,
-    entries: 1 << 53,
+    pits: USUAL_PITS,
+    entries: MOST_ENTRIES,
 };
 
 fn end_status(end: ConnEnd) -> Status

@@ -23,6 +23,7 @@ pub fn run(alloc: Global, plan: Plan) -> Result<Reply, NoMemory>
             request,
             pages: _,
             end: _,
+            number: _,
         } => page(alloc, pass, request),
     }
 }
@@ -32,16 +33,22 @@ fn page(alloc: Global, pass: Pass<View>, request: SearchRequest) -> Result<Reply
     requires { IsWithinLimits request }
     ensures { IfOk result (λ reply. reply ≡ Found (answer_of pass.body request request.from)) }
 {
-    let found = search(alloc, pass.body(), &request);
+    let found = search(alloc, pass.body(), &request, request.from as u64);
     leave(pass);
     Ok(Reply::Found(found?))
 }
 
 /// The answer to a search of a view. Shards that the slice doesn't cover, or whose bounds exclude the query, are skipped, the rows
-/// of the others that match are sorted, and those of the page alone are copied.
-pub fn search(alloc: Global, view: &View, request: &SearchRequest) -> Result<Answer, NoMemory>
+/// of the others that match are sorted, and those of the page alone are copied. The page leaves out so many of the hits that it would
+/// have.
+pub fn search(
+    alloc: Global,
+    view: &View,
+    request: &SearchRequest,
+    skip: u64,
+) -> Result<Answer, NoMemory>
     requires { IsWithinLimits request.now }
-    ensures { IfOk result (λ it. it ≡ answer_of view.now request.now request.now.from) }
+    ensures { IfOk result (λ it. it ≡ answer_of view.now request.now skip) }
 {
     let shards = view.shard_refs(alloc)?;
     let view = ViewRef {
@@ -49,7 +56,7 @@ pub fn search(alloc: Global, view: &View, request: &SearchRequest) -> Result<Ans
         mapping: view.mapping(),
         shards: &shards,
     };
-    answer(alloc, &view, request)
+    answer(alloc, &view, request, skip)
 }
 
 /// Lets a pass go. Where it was the reader's last holder, the reader ends.

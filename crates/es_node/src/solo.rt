@@ -1,6 +1,8 @@
-ghost use Rattle.std.specs.Prelude.{◌≡◌, ◌+◌, ◌<◌, ◌≤◌, ◌^◌, ◌++◌, [], ◌∷◌, max, IfOk, OnOk, OnErr};
-ghost use Rattle.list_machine.specs.Run.{IsBounded, PutsObject};
-ghost use Rattle.list_machine.specs.Serving.{IsKept};
+ghost use Rattle.std.specs.Prelude.{◌≡◌, ◌+◌, ◌*◌, ◌<◌, length, ◌≤◌, ◌^◌, ◌++◌, [], ◌∷◌, max, IfOk, OnOk, OnErr};
+ghost use Rattle.es_types.specs.declared.limits.TheConstants.{MOST_ENTRIES};
+ghost use Rattle.list_machine.specs.Run.{IsBounded, PutsObject, state_of};
+ghost use Rattle.list_machine.specs.Serving.{GrowsBeside, IsKept, applied};
+ghost use Rattle.list_machine.specs.State.{live_contexts};
 ghost use Rattle.es_core.specs.Contexts.{left_by};
 ghost use Rattle.es_core.specs.Plans.{CanAnswer, turned_reply};
 ghost use Rattle.es_core.specs.Stands.{Rests, StandsOn};
@@ -23,6 +25,7 @@ pub struct Solo {
 }
 
 impl Model for Solo {
+    ghost use Rattle.std.specs.Prelude.{length};
     ghost use Rattle.std.specs.Coded.{codes};
     ghost use Rattle.es_query.specs.contracts.query.Query as query;
     ghost use Rattle.es_node.specs.Solo.{IsRunning, Journal};
@@ -32,7 +35,7 @@ impl Model for Solo {
     // An entry may hold a query, which holds queries.
     ghost coded = { Prim.hlevel (codes, query.the_row.coded) };
 
-    ghost view = { λ s. record { limits = s.limits; history = s.journal.items } };
+    ghost view = { λ s. record { limits = s.limits; history = s.journal.items; kept = length s.core.book.contexts } };
 
     ghost invariant = { λ s. IsRunning s.limits s.core s.journal.items };
 }
@@ -41,8 +44,8 @@ impl Solo {
     /// A service with an empty history.
     pub fn make(alloc: Global, limits: Limits) -> Result<Solo, NoMemory>
         requires some { 1 ≤ limits.entries }
-        requires bounded { limits.entries ≤ 2 ^ 53 }
-        ensures { IfOk result (λ solo. solo ≡ record { limits = limits; history = [] }) }
+        requires bounded { limits.entries ≤ MOST_ENTRIES }
+        ensures { IfOk result (λ solo. solo ≡ record { limits = limits; history = []; kept = 0 }) }
     {
         let core = Core::make(alloc, limits)?;
         Ok(Solo {
@@ -143,7 +146,14 @@ impl Service for Solo {
         Ok(false)
     }
 
-    fn tidy(&mut self, moment: Moment) -> Result<(), NoMemory> {
+    fn tidy(&mut self, moment: Moment) -> Result<(), NoMemory>
+        ensures beside { GrowsBeside 0 (4 + 2 * applied (state_of self.old.limits self.old.history)) moment self.old.history self.new.history }
+        ensures limits { self.new.limits ≡ self.old.limits }
+        ensures kept { IsKept self.new.limits self.new.history }
+        // Where there was room, the core keeps exactly the contexts that are live.
+        ensures reaped { OnOk result (length self.new.history < self.new.limits.entries
+            → self.new.kept ≡ live_contexts (state_of self.new.limits self.new.history)) }
+    {
         if self.journal.len() as u64 >= self.limits.entries {
             return Ok(());
         }

@@ -3,6 +3,9 @@ ghost use Rattle.std.specs.Prelude.{None};
 
 use crate::adapter::{Input, Output};
 use crate::run::{Status, run};
+use crate::solo::Solo;
+use context_book::View;
+use es_core::{Core, Plan};
 use es_outside::{Failed, MemSink, MemSource, Sink, Source};
 use es_types::{Bytes, Items, NoMemory, Text};
 use std::alloc::Global;
@@ -280,4 +283,16 @@ fn errors_are_faults(rt: HostRuntime) {
     };
     assert!(rt; output.write(b"a").is_err());
     assert!(rt; output.faults == 1 && output.writer.calls == 1);
+}
+
+// A type that may go to another thread.
+fn is_send<T: Send>() {}
+
+#[test]
+fn the_service_and_its_plans_are_send(_rt: HostRuntime) -> Result<(), Fail> {
+    is_send::<Core>();
+    is_send::<Plan>();
+    is_send::<View>();
+    is_send::<Solo>();
+    Ok(())
 }

@@ -12,7 +12,7 @@ use Rattle.es_rest.specs.declared.ask.Ask.TheVariants.{Bulk}
 use Rattle.es_rest.specs.declared.bulk.Written.{Written}
 use Rattle.es_rest.specs.Items.{changed_by, items_in, items_of, lines_of, writes_of}
 use Rattle.es_rest.specs.Led.{BulkCut, ItemsDone, Led}
-use Rattle.es_rest.specs.Scripts.{CutShort, Ran, each, refreshes}
+use Rattle.es_rest.specs.Scripts.{CutShort, RanScript, each, refreshes}
 use Rattle.es_rest.specs.Talk.{Conversation, Interrupted, events_of, or_fault, refreshed_of}
 use Rattle.es_rest.proofs.Led.{led_cut, led_ran, led_strayed}
 
@@ -45,8 +45,8 @@ module _ (limits : Limits) (seat moment : ℕ) (index : Option (List ℕ)) (body
 
   -- all was asked
   pub bulk_done : (old mid new : History) (written : Written) (indexes : List (List ℕ)) (fault : Option RestFault) (answer : Response) → ItemsDone limits seat moment items old mid written → indexes ≡ (if refresh then written.changed else [])
-      → Ran limits seat moment (refreshes indexes) mid new fault → answer ≡ or_fault fault (response.Bulk written.lines.items) → Conversation limits seat moment (Bulk index body refresh) old new answer
+      → RanScript limits seat moment (refreshes indexes) mid new fault → answer ≡ or_fault fault (response.Bulk written.lines.items) → Conversation limits seat moment (Bulk index body refresh) old new answer
   bulk_done old mid new written indexes fault answer d is ran said =
       led_ran limits seat moment (Bulk index body refresh) old mid new d.replies fault answer (led_items old mid written d)
-      (subst (λ (l : List (List ℕ)). Ran limits seat moment (refreshes l) mid new fault) (these_indexes old mid written indexes d is) ran)
+      (subst (λ (l : List (List ℕ)). RanScript limits seat moment (refreshes l) mid new fault) (these_indexes old mid written indexes d is) ran)
       (said ∙ ap (λ (lines : List BulkLine). or_fault fault (response.Bulk lines)) (d.lines ∙ ap (λ (l : List BulkItem). lines_of l d.replies) these))

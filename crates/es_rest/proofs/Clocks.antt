@@ -4,7 +4,7 @@ use Rattle.http_wire.specs.declared.request.Request.{Request}
 use Rattle.es_rest.specs.Headline.{FollowClock, requests_of}
 use Rattle.es_rest.specs.Moments.{clock_answer, moments_of}
 use Rattle.es_rest.specs.Talk.{Exchange}
-use Rattle.es_rest.specs.Turns.{LastGoesOn}
+use Rattle.es_rest.specs.Exchanges.{LastGoesOn}
 
 -- the clock's answer behind these requests
 abbrev pub answer_after : ℕ → List Request → ℕ

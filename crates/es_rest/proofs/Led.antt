@@ -17,7 +17,7 @@ use Rattle.reply_json.specs.declared.response.RouteName.TheVariants as route
 use Rattle.es_rest.specs.declared.ask.Ask.{Ask}
 use Rattle.es_rest.specs.declared.ask.Ask.TheVariants.{Refresh}
 use Rattle.es_rest.specs.Led.{EndedBy, IsLabel, Led, WasRefreshed}
-use Rattle.es_rest.specs.Scripts.{CutShort, Part, Ran, Script, Strayed, each, is_refused, refresh, refreshes, refusal, refused}
+use Rattle.es_rest.specs.Scripts.{CutShort, Part, RanScript, Script, Strayed, each, is_refused, refresh, refreshes, refusal, refused}
 use Rattle.es_rest.specs.Talk.{Conversation, Interrupted, answer_of, events_of, or_fault, refreshed_of, response_of, script_of, seal_answer, settled}
 use Rattle.es_rest.proofs.Scripts.{cut_first, cut_none, cut_on, if_false, if_true, refused_by, talks_on}
 
@@ -38,12 +38,12 @@ module _ (limits : Limits) (seat moment : ℕ) where
       record { part = (event, said) ∷ []; talks = λ later. (new, refl, was, refl); goes = λ later rest. refl; after = λ later rest. refl }
 
   -- nothing is refreshed
-  pub ran_none : (old : History) → Ran limits seat moment (refreshes []) old old None
+  pub ran_none : (old : History) → RanScript limits seat moment (refreshes []) old old None
   ran_none old = record { part = []; talks = refl; all = refl; is = refl }
 
   -- the events of a request, and then its refreshes
   pub led_ran : (ask : Ask) (old mid new : History) (replies : List Reply) (fault : Option RestFault) (response : Response)
-      → Led limits seat moment (events_of ask) old mid replies → (ran : Ran limits seat moment (refreshes (refreshed_of ask replies)) mid new fault)
+      → Led limits seat moment (events_of ask) old mid replies → (ran : RanScript limits seat moment (refreshes (refreshed_of ask replies)) mid new fault)
       → response ≡ or_fault fault (answer_of ask replies ran.part) → Conversation limits seat moment ask old new response
   unfolding script_of response_of
   led_ran ask old mid new replies fault response led ran is =
@@ -83,19 +83,19 @@ module _ (limits : Limits) (seat moment : ℕ) where
       → Asked limits seat 4 old new (asked seat moment event) said → refusal name said ≡ Some fault → Conversation limits seat moment ask old new (response.Fault fault)
   one_refused ask event name to indexes old new said fault label was bad =
       let none : refreshed_of ask (said ∷ []) ≡ [] = label.refreshes said ∙ if_true (is_refused said) [] indexes (refused_by [] name said ∙ ap is_some bad) in
-      let ran : Ran limits seat moment (refreshes (refreshed_of ask (said ∷ []))) new new None
-      = subst (λ (l : List (List ℕ)). Ran limits seat moment (refreshes l) new new None) (sym none) (ran_none new) in
+      let ran : RanScript limits seat moment (refreshes (refreshed_of ask (said ∷ []))) new new None
+      = subst (λ (l : List (List ℕ)). RanScript limits seat moment (refreshes l) new new None) (sym none) (ran_none new) in
       led_ran ask old new new (said ∷ []) None (response.Fault fault) (led_label ask event name to indexes old new said label was) ran
       (sym (label.answer said ran.part ∙ ap (λ (r : Option RestFault). settled r said to) bad))
 
   -- it was taken
   pub one_taken : (ask : Ask) (event : Event) (name : List ℕ) (to : RouteName) (indexes : List (List ℕ)) (old mid new : History) (said : Reply) (fault : Option RestFault) (response : Response) → IsLabel ask event name to indexes
-      → Asked limits seat 4 old mid (asked seat moment event) said → refusal name said ≡ None → Ran limits seat moment (refreshes indexes) mid new fault
+      → Asked limits seat 4 old mid (asked seat moment event) said → refusal name said ≡ None → RanScript limits seat moment (refreshes indexes) mid new fault
       → response ≡ settled fault said to → Conversation limits seat moment ask old new response
   one_taken ask event name to indexes old mid new said fault response label was fine r is =
       let these : refreshed_of ask (said ∷ []) ≡ indexes = label.refreshes said ∙ if_false (is_refused said) [] indexes (refused_by [] name said ∙ ap is_some fine) in
-      let ran : Ran limits seat moment (refreshes (refreshed_of ask (said ∷ []))) mid new fault
-      = subst (λ (l : List (List ℕ)). Ran limits seat moment (refreshes l) mid new fault) (sym these) r in
+      let ran : RanScript limits seat moment (refreshes (refreshed_of ask (said ∷ []))) mid new fault
+      = subst (λ (l : List (List ℕ)). RanScript limits seat moment (refreshes l) mid new fault) (sym these) r in
       led_ran ask old mid new (said ∷ []) fault response (led_label ask event name to indexes old mid said label was) ran
       (is ∙ settle_or fault said to ∙ ap (or_fault fault) (sym (label.answer said ran.part ∙ ap (λ (r : Option RestFault). settled r said to) fine)))
 
@@ -119,7 +119,7 @@ module _ (limits : Limits) (seat moment : ℕ) where
 
   -- ---- a refresh
 
-  refresh_is : (index : List ℕ) (old new : History) (fault : Option RestFault) (response : Response) (ran : Ran limits seat moment (refreshes (index ∷ [])) old new fault)
+  refresh_is : (index : List ℕ) (old new : History) (fault : Option RestFault) (response : Response) (ran : RanScript limits seat moment (refreshes (index ∷ [])) old new fault)
       → response ≡ or_fault fault (seal_answer ran.part) → Conversation limits seat moment (Refresh index) old new response
   refresh_is index old new fault response ran is = led_ran (Refresh index) old old new [] fault response (led_none old) ran is
 

@@ -5,7 +5,7 @@ pub mod Led
 pub mod BulkTalks
 pub mod Parts
 pub mod Talks
-pub mod Turns
+pub mod Exchanges
 pub mod Clocks
 pub mod Progress
 pub mod Whole

@@ -1,14 +1,15 @@
 -- How far a connection has come, and that it comes to the headline.
-use Rattle.std.proofs.Common.{◌≡◌, refl, sym, ap, subst, ◌∙◌, inl, inr, ⊎_elim, ℕ, ◌+◌, ◌<◌, ◌≤◌, max, List, [], ◌∷◌, ◌++◌, length, take, Option, Some, None, Result, Ok, Err, arith, append_assoc, length-append, take_all}
+use Rattle.std.proofs.Common.{◌≡◌, refl, sym, ap, subst, ◌∙◌, inl, inr, ⊎_elim, true, false, ℕ, ◌+◌, ◌<◌, ◌≤◌, max, List, [], ◌∷◌, ◌++◌, length, take, Option, Some, None, Result, Ok, Err, arith, append_assoc, length-append, take_all}
 use Rattle.std.specs.Prelude.{All}
 use Rattle.std.proofs.lemmas.List.{append-nil}
 use Rattle.std.proofs.lemmas.List.Elements.{All-nil, All-cons, All-append, All-head, All-tail, All-weaker}
 use Rattle.std.proofs.Math.Seq.{take-append-add, take-nil}
+use Rattle.es_types.specs.declared.limits.TheConstants.{CONNECTION_BYTES}
 use Rattle.http_wire.specs.declared.request.Request.{Request}
 use Rattle.http_wire.specs.declared.wire.WireEnd.{WireEnd}
 use Rattle.http_wire.specs.declared.wire.WireEnd.TheVariants as wire
-use Rattle.http_wire.specs.Requests.{Begins, Spells, IsUnfinished, connection_limit}
-use Rattle.http_wire.specs.Stream.{Held, Gave, HasEnded, NextOf, Wrote, WroteSome, stream_of}
+use Rattle.http_wire.specs.Requests.{Begins, Spells, IsUnfinished}
+use Rattle.http_wire.specs.Stream.{Buffered, Gave, HasEnded, NextOf, Wrote, WroteSome, stream_of}
 use Rattle.list_machine.specs.declared.event.Limits.{Limits}
 use Rattle.list_machine.specs.Run.{History}
 use Rattle.list_machine.specs.Pages.{Enumerates}
@@ -16,21 +17,21 @@ use Rattle.es_rest.specs.declared.connection.ConnEnd.{ConnEnd}
 use Rattle.es_rest.specs.declared.connection.ConnEnd.TheVariants as end
 use Rattle.reply_json.specs.Replies.{text}
 use Rattle.es_rest.specs.Talk.{Exchange, Served, Serves}
-use Rattle.es_rest.specs.Headline.{requests_of, texts_of, EndsWith, Cuts, TookAll, AtReadFault, ReadsFrom, last_words, IsCut, WroteWords, WritesTo, NeverFalls, FollowClock, AreMoments, Headline, latest}
+use Rattle.es_rest.specs.Headline.{AreWhole, AreWritten, requests_of, texts_of, EndsWith, Cuts, TookAll, AtReadFault, ReadsFrom, last_words, IsCut, IsLastCut, WroteWords, WritesTo, NeverFalls, FollowClock, AreMoments, Headline, latest}
 use Rattle.es_rest.proofs.Clocks.{ClockSoFar, clock_more, clock_starts, requests_more, told_none}
-use Rattle.es_rest.proofs.Turns.{exchanged_as, wrote_none}
-use Rattle.es_rest.specs.Turns.{Aims, ClockAnswers, Closed, Exchanged, LastGoesOn}
+use Rattle.es_rest.proofs.Exchanges.{exchanged_as, wrote_none}
+use Rattle.es_rest.specs.Exchanges.{Aims, ClockAnswers, Closed, Exchanged, LastGoesOn}
 
 -- the bytes that were taken are these requests and then what is held, whatever comes behind them
-pub record ReadOn (bytes : List ℕ) (left : Option (List ℕ)) (held : Held) (requests : List Request) : Type 0 where
+pub record ReadOn (bytes : List ℕ) (left : Option (List ℕ)) (held : Buffered) (requests : List Request) : Type 0 where
   pub taken : List ℕ
   pub after : List ℕ
   pub from : bytes ≡ taken ++ after
   pub left_is : left ≡ Some after
   pub spells : (more : List ℕ) → Spells (taken ++ more) requests (held.bytes ++ more)
-  pub room : held.room + length taken ≡ connection_limit
+  pub room : held.room + length taken ≡ CONNECTION_BYTES
 
-abbrev pub ReadSoFar : Option (List ℕ) → Option (List ℕ) → Held → List Request → Type 0
+abbrev pub ReadSoFar : Option (List ℕ) → Option (List ℕ) → Buffered → List Request → Type 0
 ReadSoFar None left held requests = Unit {0}
 ReadSoFar (Some bytes) left held requests = ReadOn bytes left held requests
 
@@ -39,7 +40,7 @@ WroteSoFar None after served = Unit {0}
 WroteSoFar (Some written) after served = after ≡ Some (written ++ texts_of served)
 
 -- all but what was written
-pub record Moved (limits : Limits) (seat : ℕ) (old new : History) (left after : Option (List ℕ)) (last now : Option ℕ) (begun greatest : ℕ) (time : ℕ) (held : Held) (served : List Exchange) : Type 0 where
+pub record Moved (limits : Limits) (seat : ℕ) (old new : History) (left after : Option (List ℕ)) (last now : Option ℕ) (begun greatest : ℕ) (time : ℕ) (held : Buffered) (served : List Exchange) : Type 0 where
   pub serves : Serves limits seat old new served
   pub read : ReadSoFar left after held (requests_of served)
   pub never_fall : NeverFalls 0 served
@@ -50,10 +51,11 @@ pub record Moved (limits : Limits) (seat : ℕ) (old new : History) (left after 
   pub goes_on : ClockSoFar last now (requests_of served) time
 
 -- so far
-pub record Progress (limits : Limits) (seat : ℕ) (old new : History) (left after written now : Option (List ℕ)) (last told : Option ℕ) (begun greatest : ℕ) (time : ℕ) (held : Held) : Type 0 where
+pub record Progress (limits : Limits) (seat : ℕ) (old new : History) (left after written now : Option (List ℕ)) (last told : Option ℕ) (begun greatest : ℕ) (time : ℕ) (held : Buffered) : Type 0 where
   pub served : List Exchange
   pub moved : Moved limits seat old new left after last told begun greatest time held served
   pub wrote : WroteSoFar written now served
+  pub whole : AreWhole served
 
 -- ---- one request more
 
@@ -81,7 +83,7 @@ texts_more [] x = append-nil (text x.response x.request.last)
 texts_more (y ∷ served) x = ap (λ (l : List ℕ). text y.response y.request.last ++ l) (texts_more served x) ∙ sym (append_assoc (text y.response y.request.last) (texts_of served) (text x.response x.request.last))
 
 -- the bytes of a request were taken
-read_more : (left now after : Option (List ℕ)) (old new : Held) (requests : List Request) (request : Request)
+read_more : (left now after : Option (List ℕ)) (old new : Buffered) (requests : List Request) (request : Request)
     → ReadSoFar left now old requests → NextOf old new now after (Ok (Some request)) → ReadSoFar left after new (requests ++ request ∷ [])
 read_more None now after old new requests request so next = tt
 read_more (Some bytes) now after old new requests request so next =
@@ -100,7 +102,7 @@ read_more (Some bytes) now after old new requests request so next =
     }
 
 -- what a request and its response make of all but the bytes that were written
-moved_more : (limits : Limits) (seat : ℕ) (first front after : History) (left now then : Option (List ℕ)) (last told tells : Option ℕ) (begun greatest great : ℕ) (old new : ℕ) (held holds : Held) (served : List Exchange) (x : Exchange)
+moved_more : (limits : Limits) (seat : ℕ) (first front after : History) (left now then : Option (List ℕ)) (last told tells : Option ℕ) (begun greatest great : ℕ) (old new : ℕ) (held holds : Buffered) (served : List Exchange) (x : Exchange)
     → Moved limits seat first front left now last told begun greatest old held served
     → ReadSoFar left then holds (requests_of served ++ x.request ∷ [])
     → Served limits seat front after x → x.moment ≡ new
@@ -125,10 +127,10 @@ moved_more limits seat first front after left now then last told tells begun gre
 -- ---- the ends
 
 -- the stream of the connection is what was taken and what still may be
-cut_by : (bytes : List ℕ) (left : Option (List ℕ)) (held : Held) (requests : List Request) (so : ReadOn bytes left held requests) (result : ConnEnd) → EndsWith bytes (stream_of held so.after) result → Cuts bytes requests result
+cut_by : (bytes : List ℕ) (left : Option (List ℕ)) (held : Buffered) (requests : List Request) (so : ReadOn bytes left held requests) (result : ConnEnd) → EndsWith bytes (stream_of held so.after) result → Cuts bytes requests result
 cut_by bytes left held requests so result ends =
-    let limit : connection_limit ≡ length so.taken + held.room = omega (arith, so.room) in
-    let stream : take connection_limit bytes ≡ so.taken ++ take held.room so.after =
+    let limit : CONNECTION_BYTES ≡ length so.taken + held.room = omega (arith, so.room) in
+    let stream : take CONNECTION_BYTES bytes ≡ so.taken ++ take held.room so.after =
     ap (λ (n : ℕ). take n bytes) limit ∙ (ap (take (length so.taken + held.room)) so.from ∙ take-append-add so.taken so.after held.room) in
     record {
       rest = stream_of held so.after;
@@ -136,11 +138,11 @@ cut_by bytes left held requests so result ends =
       ends = ends;
     }
 
-long : (bytes : List ℕ) (left : Option (List ℕ)) (held : Held) (requests : List Request) (so : ReadOn bytes left held requests) → length bytes ≡ length so.taken + length so.after
+long : (bytes : List ℕ) (left : Option (List ℕ)) (held : Buffered) (requests : List Request) (so : ReadOn bytes left held requests) → length bytes ≡ length so.taken + length so.after
 long bytes left held requests so = ap length so.from ∙ length-append so.taken so.after
 
 -- what an end of the wire says of the bytes
-ends_by : (bytes : List ℕ) (left after : Option (List ℕ)) (held : Held) (requests : List Request) (so : ReadOn bytes left held requests) (wired : WireEnd) (aim : ConnEnd)
+ends_by : (bytes : List ℕ) (left after : Option (List ℕ)) (held : Buffered) (requests : List Request) (so : ReadOn bytes left held requests) (wired : WireEnd) (aim : ConnEnd)
     → HasEnded held so.after after wired → Aims wired aim → EndsWith bytes (stream_of held so.after) aim
 ends_by bytes left after held requests so wire.Truncated end.Truncated h aims =
     let whole : take held.room so.after ≡ so.after = take_all held.room so.after h.0 in (
@@ -156,7 +158,7 @@ ends_by bytes left after held requests so wire.NoMemory end.NoMemory h aims = tt
 ends_by bytes left after held requests so wired aim h aims = absurd aims
 
 -- at a read fault no whole request was left unserved
-took_all : (bytes : List ℕ) (left after : Option (List ℕ)) (held : Held) (requests : List Request) (so : ReadOn bytes left held requests)
+took_all : (bytes : List ℕ) (left after : Option (List ℕ)) (held : Buffered) (requests : List Request) (so : ReadOn bytes left held requests)
     → HasEnded held so.after after wire.ReadFault → TookAll bytes after requests
 took_all bytes left after held requests so h =
     record {
@@ -169,7 +171,7 @@ took_all bytes left after held requests so h =
       no_more = h.4;
     }
 
-at_fault : (bytes : List ℕ) (left after : Option (List ℕ)) (held : Held) (requests : List Request) (so : ReadOn bytes left held requests) (wired : WireEnd) (aim : ConnEnd)
+at_fault : (bytes : List ℕ) (left after : Option (List ℕ)) (held : Buffered) (requests : List Request) (so : ReadOn bytes left held requests) (wired : WireEnd) (aim : ConnEnd)
     → HasEnded held so.after after wired → Aims wired aim → AtReadFault bytes after requests aim
 at_fault bytes left after held requests so wire.ReadFault end.ReadFault h aims = took_all bytes left after held requests so h
 at_fault bytes left after held requests so wire.Truncated end.Truncated h aims = tt
@@ -180,7 +182,7 @@ at_fault bytes left after held requests so wire.NoMemory end.NoMemory h aims = t
 at_fault bytes left after held requests so wired aim h aims = absurd aims
 
 -- what the link told of the bytes, where the wire ended
-reads_end : (left now after : Option (List ℕ)) (held new : Held) (requests : List Request) (wired : WireEnd) (aim : ConnEnd)
+reads_end : (left now after : Option (List ℕ)) (held new : Buffered) (requests : List Request) (wired : WireEnd) (aim : ConnEnd)
     → ReadSoFar left now held requests → NextOf held new now after (Err wired) → Aims wired aim → ReadsFrom left after requests aim
 reads_end None now after held new requests wired aim so next aims = tt
 reads_end (Some bytes) now after held new requests wired aim so next aims =
@@ -189,12 +191,12 @@ reads_end (Some bytes) now after held new requests wired aim so next aims =
     (cut_by bytes now held requests so aim (ends_by bytes now after held requests so wired aim h aims), at_fault bytes now after held requests so wired aim h aims)
 
 -- and where a write failed
-reads_fault : (left now after : Option (List ℕ)) (held : Held) (requests : List Request) → ReadSoFar left now held requests → ReadsFrom left after requests end.WriteFault
+reads_fault : (left now after : Option (List ℕ)) (held : Buffered) (requests : List Request) → ReadSoFar left now held requests → ReadsFrom left after requests end.WriteFault
 reads_fault None now after held requests so = tt
 reads_fault (Some bytes) now after held requests so = (cut_by bytes now held requests so end.WriteFault tt, tt)
 
 -- and where the input ended between two requests
-reads_done : (left now after : Option (List ℕ)) (held new : Held) (requests : List Request) → ReadSoFar left now held requests → NextOf held new now after (Ok None) → ReadsFrom left after requests end.Done
+reads_done : (left now after : Option (List ℕ)) (held new : Buffered) (requests : List Request) → ReadSoFar left now held requests → NextOf held new now after (Ok None) → ReadsFrom left after requests end.Done
 reads_done None now after held new requests so next = tt
 reads_done (Some bytes) now after held new requests so next =
     let P : Option (List ℕ) → Type 0 = λ o. NextOf held new o after (Ok None) in
@@ -226,6 +228,26 @@ writes_end left rest (Some written) now after served aim fault so wrote =
     let P : Option (List ℕ) → Type 0 = λ o. Wrote o after (last_words aim) in
     words_at left rest written after served aim fault (subst P so wrote ∙ ap Some (append_assoc written (texts_of served) (last_words aim)))
 
+-- one more was written whole
+whole_more : (served : List Exchange) (x : Exchange) → AreWhole served → x.written ≡ true → AreWhole (served ++ x ∷ [])
+whole_more served x whole is =
+    let P : Exchange → Type 0 = λ y. y.written ≡ true in
+    All-append P served (x ∷ []) whole (All-cons P x [] is (All-nil P))
+
+-- or one more wasn't
+abbrev last_cut : (served : List Exchange) (x : Exchange) → AreWhole served → x.written ≡ false → IsLastCut (served ++ x ∷ [])
+last_cut served x whole cut = record { first = served; last = x; served_are = refl; whole = whole; cut = cut }
+
+-- an end leaves the marks of all
+marks_at : (served : List Exchange) (ended : ConnEnd) → AreWhole served → AreWritten served ended
+marks_at served end.Done whole = whole
+marks_at served end.Refused whole = whole
+marks_at served end.ReadFault whole = whole
+marks_at served end.WriteFault whole = inl whole
+marks_at served end.NoMemory whole = whole
+marks_at served end.Truncated whole = whole
+marks_at served end.TooMuch whole = whole
+
 -- words behind the texts were cut
 cut_words : (written : List ℕ) (now after : Option (List ℕ)) (texts words : List ℕ) → now ≡ Some (written ++ texts) → WroteSome now after words → IsCut written after texts words
 cut_words written now after texts words so wrote =
@@ -234,16 +256,16 @@ cut_words written now after texts words so wrote =
     record { count = some.0; short = some.1; is = some.2 ∙ ap Some (append_assoc written texts (take some.0 words)) }
 
 -- the last words failed
-writes_fault : (left rest first now after : Option (List ℕ)) (served : List Exchange) (aim : ConnEnd) → ReadsFrom left rest (requests_of served) aim → WroteSoFar first now served → WroteSome now after (last_words aim) → WritesTo left rest first after served end.WriteFault
-writes_fault left rest None now after served aim reads so wrote = tt
-writes_fault left rest (Some written) now after served aim reads so wrote =
-    inr (record { aim = aim; reads = reads; cut = cut_words written now after (texts_of served) (last_words aim) so wrote })
+writes_fault : (left rest first now after : Option (List ℕ)) (served : List Exchange) (aim : ConnEnd) → AreWhole served → ReadsFrom left rest (requests_of served) aim → WroteSoFar first now served → WroteSome now after (last_words aim) → WritesTo left rest first after served end.WriteFault
+writes_fault left rest None now after served aim whole reads so wrote = tt
+writes_fault left rest (Some written) now after served aim whole reads so wrote =
+    inr (record { aim = aim; whole = whole; reads = reads; cut = cut_words written now after (texts_of served) (last_words aim) so wrote })
 
 -- the text of a response failed
-writes_cut : (left rest first now after : Option (List ℕ)) (served : List Exchange) (x : Exchange) → WroteSoFar first now served → WroteSome now after (text x.response x.request.last) → WritesTo left rest first after (served ++ x ∷ []) end.WriteFault
-writes_cut left rest None now after served x so wrote = tt
-writes_cut left rest (Some written) now after served x so wrote =
-    inl (record { first = served; last = x; served_are = refl; cut = cut_words written now after (texts_of served) (text x.response x.request.last) so wrote })
+writes_cut : (left rest first now after : Option (List ℕ)) (served : List Exchange) (x : Exchange) → AreWhole served → x.written ≡ false → WroteSoFar first now served → WroteSome now after (text x.response x.request.last) → WritesTo left rest first after (served ++ x ∷ []) end.WriteFault
+writes_cut left rest None now after served x whole cut so wrote = tt
+writes_cut left rest (Some written) now after served x whole cut so wrote =
+    inl (record { at = last_cut served x whole cut; cut = cut_words written now after (texts_of served) (text x.response x.request.last) so wrote })
 
 wrote_on : (first now after : Option (List ℕ)) (served : List Exchange) (x : Exchange) → WroteSoFar first now served → Wrote now after (text x.response x.request.last) → WroteSoFar first after (served ++ x ∷ [])
 wrote_on None now after served x so wrote = tt
@@ -252,7 +274,7 @@ wrote_on (Some written) now after served x so wrote =
     let P : Option (List ℕ) → Type 0 = λ o. Wrote o after words in
     subst P so wrote ∙ ap Some (append_assoc written (texts_of served) words ∙ ap (λ (l : List ℕ). written ++ l) (sym (texts_more served x)))
 
-moments_of : (limits : Limits) (seat : ℕ) (first front : History) (left now : Option (List ℕ)) (last told : Option ℕ) (begun greatest : ℕ) (time : ℕ) (held : Held) (served : List Exchange)
+moments_of : (limits : Limits) (seat : ℕ) (first front : History) (left now : Option (List ℕ)) (last told : Option ℕ) (begun greatest : ℕ) (time : ℕ) (held : Buffered) (served : List Exchange)
     → Moved limits seat first front left now last told begun greatest time held served → AreMoments last begun greatest served
 moments_of limits seat first front left now last told begun greatest time held served m =
     record {
@@ -262,7 +284,7 @@ moments_of limits seat first front left now last told begun greatest time held s
       told = m.told;
     }
 
-read_none : (left : Option (List ℕ)) (held : Held) → held ≡ record { bytes = []; room = connection_limit } → ReadSoFar left left held []
+read_none : (left : Option (List ℕ)) (held : Buffered) → held ≡ record { bytes = []; room = CONNECTION_BYTES } → ReadSoFar left left held []
 read_none None held empty = tt
 read_none (Some bytes) held empty =
     record {
@@ -270,8 +292,8 @@ read_none (Some bytes) held empty =
       after = bytes;
       from = refl;
       left_is = refl;
-      spells = λ more. sym (ap (λ (h : Held). h.bytes ++ more) empty);
-      room = omega (arith, ap (λ (h : Held). h.room) empty);
+      spells = λ more. sym (ap (λ (h : Buffered). h.bytes ++ more) empty);
+      room = omega (arith, ap (λ (h : Buffered). h.room) empty);
     }
 
 wrote_nothing : (written : Option (List ℕ)) → WroteSoFar written written []
@@ -279,7 +301,7 @@ wrote_nothing None = tt
 wrote_nothing (Some written) = ap Some (sym (append-nil written))
 
 -- the same as moved_more, from what the exchange says
-moved_by : (limits : Limits) (seat : ℕ) (first front after : History) (left now then was is : Option (List ℕ)) (last told tells : Option ℕ) (begun greatest great : ℕ) (old new : ℕ) (held holds : Held) (request : Request) {E : Type 0} (result : Result (Unit {0}) E) (served : List Exchange)
+moved_by : (limits : Limits) (seat : ℕ) (first front after : History) (left now then was is : Option (List ℕ)) (last told tells : Option ℕ) (begun greatest great : ℕ) (old new : ℕ) (held holds : Buffered) (request : Request) {E : Type 0} (result : Result (Unit {0}) E) (served : List Exchange)
     → Moved limits seat first front left now last told begun greatest old held served
     → NextOf held holds now then (Ok (Some request)) → (ex : Exchanged limits seat new front after request was is result)
     → old ≤ new → ClockAnswers old new greatest great → LastGoesOn told tells request old new
@@ -291,8 +313,8 @@ moved_by limits seat first front after left now then was is last told tells begu
 
 -- ---- the clauses of the call
 
-pub starts : (limits : Limits) (seat : ℕ) (first : History) (left written : Option (List ℕ)) (last : Option ℕ) (greatest : ℕ) (time : ℕ) (held : Held)
-    → time ≡ 0 → held ≡ record { bytes = []; room = connection_limit }
+pub starts : (limits : Limits) (seat : ℕ) (first : History) (left written : Option (List ℕ)) (last : Option ℕ) (greatest : ℕ) (time : ℕ) (held : Buffered)
+    → time ≡ 0 → held ≡ record { bytes = []; room = CONNECTION_BYTES }
     → Progress limits seat first first left left written written last last greatest greatest time held
 starts limits seat first left written last greatest time held none empty =
     record {
@@ -308,11 +330,12 @@ starts limits seat first left written last greatest time held none empty =
         goes_on = clock_starts last time none;
       };
       wrote = wrote_nothing written;
+      whole = All-nil (λ (x : Exchange). x.written ≡ true);
     }
 
 -- one request more was read, and its response written
-pub goes_on : {limits other : Limits} {seat others : ℕ} {first front after : History} {left now written before was is : Option (List ℕ)} {last told : Option ℕ} {begun greatest : ℕ} {old new : ℕ} {held : Held} {request : Request} {E : Type 0} {done : Unit {0}}
-    (mid then : Option (List ℕ)) (tells : Option ℕ) (great : ℕ) (holds : Held)
+pub goes_on : {limits other : Limits} {seat others : ℕ} {first front after : History} {left now written before was is : Option (List ℕ)} {last told : Option ℕ} {begun greatest : ℕ} {old new : ℕ} {held : Buffered} {request : Request} {E : Type 0} {done : Unit {0}}
+    (mid then : Option (List ℕ)) (tells : Option ℕ) (great : ℕ) (holds : Buffered)
     → Progress limits seat first front left now written before last told begun greatest old held
     → was ≡ before → NextOf held holds now mid (Ok (Some request)) → then ≡ mid → other ≡ limits → others ≡ seat
     → Exchanged other others new front after request was is {E = E} (Ok done)
@@ -326,11 +349,12 @@ goes_on {limits} {other} {seat} {others} {first} {front} {after} {left} {now} {w
       served = p.served ++ ex.x ∷ [];
       moved = moved_by limits seat first front after left now then was is last told tells begun greatest great old new held holds request (Ok done) p.served p.moved read ex later asked goes;
       wrote = wrote_on written was is p.served ex.x wrote (subst (λ (r : Request). Wrote was is (text ex.x.response r.last)) (sym ex.request_is) ex.wrote);
+      whole = whole_more p.served ex.x p.whole ex.written_is;
     }
 
 -- one request more was read, and the write of its response failed
-pub failed : {limits other : Limits} {seat others : ℕ} {first front after : History} {left now written before was is : Option (List ℕ)} {last told : Option ℕ} {begun greatest : ℕ} {old new : ℕ} {held : Held} {request : Request} {E : Type 0} {e : E}
-    (mid then : Option (List ℕ)) (tells : Option ℕ) (great : ℕ) (holds : Held)
+pub failed : {limits other : Limits} {seat others : ℕ} {first front after : History} {left now written before was is : Option (List ℕ)} {last told : Option ℕ} {begun greatest : ℕ} {old new : ℕ} {held : Buffered} {request : Request} {E : Type 0} {e : E}
+    (mid then : Option (List ℕ)) (tells : Option ℕ) (great : ℕ) (holds : Buffered)
     → Progress limits seat first front left now written before last told begun greatest old held
     → was ≡ before → NextOf held holds now mid (Ok (Some request)) → then ≡ mid → other ≡ limits → others ≡ seat
     → Exchanged other others new front after request was is (Err e)
@@ -347,13 +371,14 @@ failed {limits} {other} {seat} {others} {first} {front} {after} {left} {now} {wr
       serves = m.serves;
       enumerates = law;
       reads = reads_fault left then then holds (requests_of (p.served ++ ex.x ∷ [])) m.read;
-      writes = writes_cut left then written was is p.served ex.x wrote (subst (λ (r : Request). WroteSome was is (text ex.x.response r.last)) (sym ex.request_is) ex.wrote);
+      writes = writes_cut left then written was is p.served ex.x p.whole ex.written_is wrote (subst (λ (r : Request). WroteSome was is (text ex.x.response r.last)) (sym ex.request_is) ex.wrote);
       moments = moments_of limits seat first after left then last tells begun great new holds (p.served ++ ex.x ∷ []) m;
+      marks = inr (last_cut p.served ex.x p.whole ex.written_is);
     }
 
 -- the input ended between two requests
-pub ended : {limits : Limits} {seat : ℕ} {first front : History} {left now written before was : Option (List ℕ)} {last told : Option ℕ} {begun greatest : ℕ} {time : ℕ} {held : Held}
-    (then : Option (List ℕ)) (new : Held)
+pub ended : {limits : Limits} {seat : ℕ} {first front : History} {left now written before was : Option (List ℕ)} {last told : Option ℕ} {begun greatest : ℕ} {time : ℕ} {held : Buffered}
+    (then : Option (List ℕ)) (new : Buffered)
     → Progress limits seat first front left now written before last told begun greatest time held
     → was ≡ before → NextOf held new now then (Ok None) → Enumerates limits front
     → Headline limits seat first front left then written was last begun greatest end.Done
@@ -366,11 +391,12 @@ ended {limits} {seat} {first} {front} {left} {now} {written} {before} {was} {las
       reads = reads_done left now then held new (requests_of p.served) p.moved.read next;
       writes = writes_end left then written was was p.served end.Done (λ e. cc) wrote (wrote_none was);
       moments = moments_of limits seat first front left now last told begun greatest time held p.served p.moved;
+      marks = p.whole;
     }
 
 -- the wire ended, and its last words were written or cut
-pub closed : {limits : Limits} {seat : ℕ} {first front : History} {left now written before was is : Option (List ℕ)} {last told : Option ℕ} {begun greatest : ℕ} {time : ℕ} {held : Held} {wired : WireEnd} {result : ConnEnd}
-    (mid then : Option (List ℕ)) (new : Held)
+pub closed : {limits : Limits} {seat : ℕ} {first front : History} {left now written before was is : Option (List ℕ)} {last told : Option ℕ} {begun greatest : ℕ} {time : ℕ} {held : Buffered} {wired : WireEnd} {result : ConnEnd}
+    (mid then : Option (List ℕ)) (new : Buffered)
     → Progress limits seat first front left now written before last told begun greatest time held
     → was ≡ before → NextOf held new now mid (Err wired) → then ≡ mid → Closed was is wired result → Enumerates limits front
     → Headline limits seat first front left then written is last begun greatest result
@@ -389,6 +415,7 @@ closed {limits} {seat} {first} {front} {left} {now} {written} {before} {was} {is
       reads = reads;
       writes = writes_end left then written was is p.served closes.aim (λ e. never_a_fault wired (subst (λ (a : ConnEnd). Aims wired a) e closes.aims)) wrote fine.1;
       moments = moments;
+      marks = marks_at p.served closes.aim p.whole;
     }))
     (λ (cut : (result ≡ end.WriteFault) × WroteSome was is (last_words closes.aim)).
     subst P (sym cut.0) (record {
@@ -396,12 +423,13 @@ closed {limits} {seat} {first} {front} {left} {now} {written} {before} {was} {is
       serves = p.moved.serves;
       enumerates = law;
       reads = reads_fault left now then held (requests_of p.served) p.moved.read;
-      writes = writes_fault left then written was is p.served closes.aim reads wrote cut.1;
+      writes = writes_fault left then written was is p.served closes.aim p.whole reads wrote cut.1;
       moments = moments;
+      marks = inl p.whole;
     }))
     closes.wrote
 
 -- want of memory says nothing of the bytes
-pub next_wants : (now after : Option (List ℕ)) (held new : Held) → NextOf held new now after (Err wire.NoMemory)
+pub next_wants : (now after : Option (List ℕ)) (held new : Buffered) → NextOf held new now after (Err wire.NoMemory)
 next_wants None after held new = tt
 next_wants (Some bytes) after held new = tt

@@ -8,7 +8,7 @@ use Rattle.list_machine.specs.declared.event.Limits.{Limits}
 use Rattle.list_machine.specs.Run.{History}
 use Rattle.list_machine.specs.Serving.{Asked, MayHaveAsked, asked}
 use Rattle.es_rest.specs.Led.{EndedBy, Published, WasRefreshed}
-use Rattle.es_rest.specs.Scripts.{CutShort, Part, Ran, Script, Strayed, Talks, behind_seal, is_refused, publishes, refresh, refreshes, refusal, refused}
+use Rattle.es_rest.specs.Scripts.{CutShort, Part, RanScript, Script, Strayed, Talks, behind_seal, is_refused, publishes, refresh, refreshes, refusal, refused}
 use Rattle.es_rest.proofs.Scripts.{cut_first, cut_on, drop_all, drop_at, first_of-none, if_false, if_true, not_refused, refused-append, talks_on, talks_one}
 
 module _ (limits : Limits) (seat moment : ℕ) where
@@ -179,7 +179,7 @@ module _ (limits : Limits) (seat moment : ℕ) where
       }
 
   pub cleared_all : (indexes : List (List ℕ)) (old new : History) (count : ℕ) → Cleared indexes old new count → length indexes ≤ count
-      → Ran limits seat moment (refreshes indexes) old new None
+      → RanScript limits seat moment (refreshes indexes) old new None
   cleared_all indexes old new count d all =
       record {
         part = d.part;
@@ -189,7 +189,7 @@ module _ (limits : Limits) (seat moment : ℕ) where
       }
 
   pub cleared_ended : (indexes : List (List ℕ)) (old mid new : History) (count : ℕ) (index : List ℕ) (said : Reply) → Cleared indexes old mid count → slice_get indexes count ≡ Some index
-      → EndedBy limits seat moment index mid new said → Ran limits seat moment (refreshes indexes) old new (refusal index said)
+      → EndedBy limits seat moment index mid new said → RanScript limits seat moment (refreshes indexes) old new (refusal index said)
   cleared_ended indexes old mid new count index said d at e =
       let later = refreshes (drop (count + 1) indexes) in
       record {

@@ -1,9 +1,10 @@
 -- Inputs of whole requests.
 use Rattle.std.proofs.Common.{◌≡◌, subst, inl, inr, ⊎_elim, ◌⊎◌, ℕ, ◌≤◌, List, [], length, take, Option, Some, None, arith, refl}
 use Rattle.std.proofs.lemmas.List.{take_all}
+use Rattle.es_types.specs.declared.limits.TheConstants.{CONNECTION_BYTES}
 use Rattle.es_outside.specs.Told.{Rose}
 use Rattle.http_wire.specs.declared.request.Request.{Request}
-use Rattle.http_wire.specs.Requests.{IsEnd, Spells, connection_limit}
+use Rattle.http_wire.specs.Requests.{IsEnd, Spells}
 use Rattle.http_wire.proofs.OneHead.{ends_apart, spells_one}
 use Rattle.list_machine.specs.declared.event.Limits.{Limits}
 use Rattle.list_machine.specs.Run.{History}
@@ -13,13 +14,13 @@ use Rattle.es_rest.specs.Headline.{Cuts, Headline, requests_of}
 use Rattle.es_rest.specs.Whole.{ServesWhole}
 
 -- the input was taken whole, so these are its requests
-same_requests : (bytes rest : List ℕ) (served requests : List Request) → length bytes ≤ connection_limit → Spells (take connection_limit bytes) served rest → IsEnd rest
+same_requests : (bytes rest : List ℕ) (served requests : List Request) → length bytes ≤ CONNECTION_BYTES → Spells (take CONNECTION_BYTES bytes) served rest → IsEnd rest
     → Spells bytes requests [] → (served ≡ requests) × (rest ≡ [])
 same_requests bytes rest served requests room cut ends spells =
-    spells_one bytes served requests rest [] (subst (λ (l : List ℕ). Spells l served rest) (take_all connection_limit bytes room) cut) ends spells (inl (inl refl))
+    spells_one bytes served requests rest [] (subst (λ (l : List ℕ). Spells l served rest) (take_all CONNECTION_BYTES bytes room) cut) ends spells (inl (inl refl))
 
 -- what an end says where nothing stands behind the requests
-pub which_end : (bytes : List ℕ) (served requests : List Request) (ended : ConnEnd) → Cuts bytes served ended → Spells bytes requests [] → length bytes ≤ connection_limit
+pub which_end : (bytes : List ℕ) (served requests : List Request) (ended : ConnEnd) → Cuts bytes served ended → Spells bytes requests [] → length bytes ≤ CONNECTION_BYTES
     → (ended ≡ end.ReadFault → ⊥) → (ended ≡ end.WriteFault → ⊥) → (ended ≡ end.NoMemory) ⊎ ((ended ≡ end.Done) × (served ≡ requests))
 which_end bytes served requests end.Done cuts spells room read write =
     inr (refl, (same_requests bytes cuts.rest served requests room cuts.spells (inl (inl cuts.ends.1)) spells).0)

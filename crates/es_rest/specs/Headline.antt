@@ -1,7 +1,8 @@
 -- What a call that serves a connection did.
-use Rattle.std.specs.Prelude.{◌≡◌, ◌≢◌, ◌⊎◌, ℕ, ◌<◌, ◌≤◌, true, List, [], ◌∷◌, ◌++◌, length, take, map, flat_map, Option, Some, None, All, max}
+use Rattle.std.specs.Prelude.{◌≡◌, ◌≢◌, ◌⊎◌, ℕ, ◌<◌, ◌≤◌, true, false, List, [], ◌∷◌, ◌++◌, length, take, map, flat_map, Option, Some, None, All, max}
+use Rattle.es_types.specs.declared.limits.TheConstants.{CONNECTION_BYTES}
 use Rattle.http_wire.specs.declared.request.Request.{Request}
-use Rattle.http_wire.specs.Requests.{HasNoRequest, IsRefused, IsUnfinished, Spells, connection_limit}
+use Rattle.http_wire.specs.Requests.{HasNoRequest, IsRefused, IsUnfinished, Spells}
 use Rattle.list_machine.specs.declared.event.Limits.{Limits}
 use Rattle.list_machine.specs.Run.{History}
 use Rattle.list_machine.specs.Pages.{Enumerates}
@@ -20,16 +21,16 @@ requests_of served = map (λ (x : Exchange). x.request) served
 
 -- what the bytes that are left of a connection say of its end, where some more stand behind them or not
 abbrev pub EndsWith : List ℕ → List ℕ → ConnEnd → Type 0
-EndsWith bytes rest Done = (length bytes ≤ connection_limit) × (rest ≡ [])
-EndsWith bytes rest Truncated = (length bytes ≤ connection_limit) × (rest ≢ []) × IsUnfinished rest
+EndsWith bytes rest Done = (length bytes ≤ CONNECTION_BYTES) × (rest ≡ [])
+EndsWith bytes rest Truncated = (length bytes ≤ CONNECTION_BYTES) × (rest ≢ []) × IsUnfinished rest
 EndsWith bytes rest Refused = IsRefused rest
-EndsWith bytes rest TooMuch = (connection_limit < length bytes) × HasNoRequest rest
+EndsWith bytes rest TooMuch = (CONNECTION_BYTES < length bytes) × HasNoRequest rest
 EndsWith bytes rest end = Unit {0}
 
 -- The bytes begin with these requests, and behind them stands what ended the connection.
 pub record Cuts (bytes : List ℕ) (requests : List Request) (end : ConnEnd) : Type 0 where
   pub rest : List ℕ
-  pub spells : Spells (take connection_limit bytes) requests rest
+  pub spells : Spells (take CONNECTION_BYTES bytes) requests rest
   pub ends : EndsWith bytes rest end
 
 -- The bytes that were taken are these requests, and behind them no whole one.
@@ -51,6 +52,25 @@ abbrev pub ReadsFrom : Option (List ℕ) → Option (List ℕ) → List Request 
 ReadsFrom None left requests end = Unit {0}
 ReadsFrom (Some bytes) left requests end = Cuts bytes requests end × AtReadFault bytes left requests end
 
+-- ---- which responses were written
+
+-- each response was written whole
+abbrev pub AreWhole : List Exchange → Type 0
+AreWhole served = All (λ (x : Exchange). x.written ≡ true) served
+
+-- each but the last was, and the last one wasn't
+pub record IsLastCut (served : List Exchange) : Type 0 where
+  pub first : List Exchange
+  pub last : Exchange
+  pub served_are : served ≡ first ++ last ∷ []
+  pub whole : AreWhole first
+  pub cut : last.written ≡ false
+
+-- all were, or at a write fault all but perhaps the last, whatever the link tells
+abbrev pub AreWritten : List Exchange → ConnEnd → Type 0
+AreWritten served WriteFault = AreWhole served ⊎ IsLastCut served
+AreWritten served end = AreWhole served
+
 -- ---- the bytes that were written
 
 -- the texts of the responses in turn
@@ -71,14 +91,13 @@ pub record IsCut (written : List ℕ) (after : Option (List ℕ)) (texts words :
 
 -- the responses to all but the last request were written, and its own was cut
 pub record IsCutInResponse (written : List ℕ) (after : Option (List ℕ)) (served : List Exchange) : Type 0 where
-  pub first : List Exchange
-  pub last : Exchange
-  pub served_are : served ≡ first ++ last ∷ []
-  pub cut : IsCut written after (texts_of first) (text last.response last.request.last)
+  pub at : IsLastCut served
+  pub cut : IsCut written after (texts_of at.first) (text at.last.response at.last.request.last)
 
 -- all responses were written, and the words of an end were cut, which the bytes or want of memory gave
 pub record IsCutAtEnd (left left_after : Option (List ℕ)) (written : List ℕ) (after : Option (List ℕ)) (served : List Exchange) : Type 0 where
   pub aim : ConnEnd
+  pub whole : AreWhole served
   pub reads : ReadsFrom left left_after (requests_of served) aim
   pub cut : IsCut written after (texts_of served) (last_words aim)
 
@@ -131,3 +150,4 @@ pub record Headline (limits : Limits) (seat : ℕ) (old new : History) (left lef
   pub reads : ReadsFrom left left_after (requests_of served) end
   pub writes : WritesTo left left_after written written_after served end
   pub moments : AreMoments last begun greatest served
+  pub marks : AreWritten served end

@@ -6,5 +6,5 @@ pub mod Talk
 pub mod Led
 pub mod Moments
 pub mod Headline
-pub mod Turns
+pub mod Exchanges
 pub mod Whole

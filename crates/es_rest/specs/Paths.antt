@@ -5,6 +5,7 @@ use Rattle.std.specs.Str.Lossy.{utf8_lossy}
 use Rattle.std.specs.Char.{is_ascii_digit}
 use Rattle.std.specs.List.{list_all, list_any}
 use Rattle.std.specs.Str.Parse.{digits_value}
+use Rattle.es_types.specs.declared.limits.TheConstants.{USUAL_BATCH}
 use Rattle.form_urlencoded.specs.Form.{decode, raw_pairs}
 use Rattle.percent_encoding.specs.Percent.{percent_decode}
 use Rattle.matchit.specs.Rows.{RowsOf}
@@ -115,12 +116,8 @@ are_digits text = nat_le 1 (length text) && (nat_le (length text) 9 && list_all 
 unfoldable pub batch_value : List ℕ → Option ℕ
 batch_value text = if are_digits text then Some (digits_value 10 text) else None
 
--- how many shards make a batch, where a search doesn't say it
-abbrev pub usual_batch : ℕ
-usual_batch = 512
-
 abbrev pub given_or_usual : Option ℕ → ℕ
-given_or_usual None = usual_batch
+given_or_usual None = USUAL_BATCH
 given_or_usual (Some batch) = batch
 
 -- How many shards these parameters say make a batch, where `batched_reduce_size` is taken, at most once: the first that isn't

@@ -1,6 +1,7 @@
 -- What a request asks for, or the first class of refusals that it meets.
 use Rattle.std.specs.Prelude.{◌≡◌, ℕ, ◌&&◌, ◌||◌, ◌==◌, Bool, true, false, not, nat_le, bytes_eq, if◌then◌else◌, List, [], ◌∷◌, length, Option, Some, None, Result, Ok, Err, codes}
 use Rattle.std.specs.List.{list_all}
+use Rattle.es_types.specs.declared.limits.TheConstants.{LEAST_BATCH, MOST_BATCH, USUAL_BATCH}
 use Rattle.es_types.specs.declared.doc.Doc.{Doc}
 use Rattle.es_types.specs.Name.{is_index_name}
 use Rattle.es_types.specs.declared.limit.LimitName.{LimitName}
@@ -21,7 +22,7 @@ use Rattle.list_machine.specs.Objects.{IsObject}
 use Rattle.list_machine.specs.Run.{IsBounded, IsWithinLimits}
 use Rattle.list_machine.specs.declared.event.Event.TheVariants as event
 use Rattle.list_machine.specs.declared.event.Target.TheVariants as target
-use Rattle.list_machine.specs.declared.search.SearchRequest.{SearchRequest}
+use Rattle.list_machine.specs.declared.page.request.SearchRequest.{SearchRequest}
 use Rattle.reply_json.specs.declared.fault.RestFault.{RestFault}
 use Rattle.reply_json.specs.declared.fault.RestFault.TheVariants as fault
 use Rattle.es_rest.specs.declared.ask.Ask.{Ask}
@@ -35,7 +36,7 @@ use Rattle.es_rest.specs.declared.paths.Place.TheVariants as place
 use Rattle.es_rest.specs.Items.{body_fault, items_of, named}
 use Rattle.es_rest.specs.Moments.{is_unreadable}
 use Rattle.es_rest.specs.declared.params.Param.{Param}
-use Rattle.es_rest.specs.Paths.{batch_in, decoded, has_param, keep_in, params_of, part, place_of, refresh_in, usual_batch}
+use Rattle.es_rest.specs.Paths.{batch_in, decoded, has_param, keep_in, params_of, part, place_of, refresh_in}
 
 abbrev pub and_then : {A B : Type 0} → Result A RestFault → (A → Result B RestFault) → Result B RestFault
 and_then (Ok value) next = next value
@@ -180,11 +181,11 @@ abbrev pub batch_asked : Request → Result ℕ RestFault
 batch_asked request = batch_in None (params_of request.query)
 
 abbrev pub is_batch : ℕ → Bool
-is_batch batch = nat_le 2 batch && nat_le batch 1024
+is_batch batch = nat_le LEAST_BATCH batch && nat_le batch MOST_BATCH
 
 -- what a body is read with: the usual number where the request's is none
 abbrev pub batch_used : ℕ → ℕ
-batch_used batch = if is_batch batch then batch else usual_batch
+batch_used batch = if is_batch batch then batch else USUAL_BATCH
 
 -- the index that the path names, where it names one
 abbrev pub index_where : Bool → Request → Result (Option (List ℕ)) RestFault

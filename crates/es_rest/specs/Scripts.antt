@@ -99,7 +99,7 @@ Talks limits seat moment script old new (said ∷ part) =
     × Talks limits seat moment (λ rest. script (said ∷ rest)) mid new part
 
 -- all of the script was asked, and this is its first refusal
-pub record Ran (limits : Limits) (seat moment : ℕ) (script : Script) (old new : History) (fault : Option RestFault) : Type 0 where
+pub record RanScript (limits : Limits) (seat moment : ℕ) (script : Script) (old new : History) (fault : Option RestFault) : Type 0 where
   pub part : Part
   pub talks : Talks limits seat moment script old new part
   pub all : script part ≡ None

@@ -1,5 +1,5 @@
 -- Which events a request asks for, what it is answered, and what a row of requests makes of the history.
-use Rattle.std.specs.Prelude.{◌≡◌, ◌⊎◌, ℕ, ◌+◌, ◌*◌, Bool, if◌then◌else◌, List, [], ◌∷◌, Option, Some, None, Ok, Err}
+use Rattle.std.specs.Prelude.{◌≡◌, ◌⊎◌, ℕ, ◌+◌, ◌*◌, Bool, true, false, if◌then◌else◌, List, [], ◌∷◌, Option, Some, None, Ok, Err}
 use Rattle.ctx_ids.specs.declared.id.ContextId.{ContextId}
 use Rattle.ctx_ids.specs.Ids.{text_of}
 use Rattle.http_wire.specs.declared.request.Request.{Request}
@@ -160,19 +160,30 @@ Responds limits seat moment old new request response =
     IsFault old new request response
     ⊎ (IsDone limits seat moment old new request response ⊎ WantsMemory limits seat moment old new request response)
 
--- a request, the connection's moment at it, and its response
+-- a request, the connection's moment at it, its response, and whether that was written whole
 pub record Exchange : Type 0 where
   pub request : Request
   pub moment : ℕ
   pub response : Response
+  pub written : Bool
 
--- the response, and behind it the help and the tidying that go with every request
+-- some help, and then the tidying
+pub record HelpsAndTidies (limits : Limits) (seat moment : ℕ) (old new : History) : Type 0 where
+  pub helped : History
+  pub helps : GrowsBeside seat 4 moment old helped
+  pub tidies : GrowsBeside seat (4 + 2 * applied (state_of limits helped)) moment helped new
+
+-- What a request leaves after its answer: help and tidying go with each one whose response was written whole, and after one that
+-- wasn't nothing is added.
+abbrev pub Tended : Limits → ℕ → ℕ → Bool → History → History → Type 0
+Tended limits seat moment true old new = HelpsAndTidies limits seat moment old new
+Tended limits seat moment false old new = new ≡ old
+
+-- the response, and what the request leaves after it
 pub record Served (limits : Limits) (seat : ℕ) (old new : History) (x : Exchange) : Type 0 where
   pub answered : History
-  pub helped : History
   pub responds : Responds limits seat x.moment old answered x.request x.response
-  pub helps : GrowsBeside seat 4 x.moment answered helped
-  pub tidies : GrowsBeside seat (4 + 2 * applied (state_of limits helped)) x.moment helped new
+  pub tended : Tended limits seat x.moment x.written answered new
 
 -- The history goes from old to new while a seat serves these requests with these responses.
 abbrev pub Serves : Limits → ℕ → History → History → List Exchange → Type 0

@@ -1,8 +1,9 @@
 -- That what is left of a connection is answered wholly.
 use Rattle.std.specs.Prelude.{◌≡◌, ◌⊎◌, ℕ, ◌≤◌, List, [], length, Option, Some, None}
+use Rattle.es_types.specs.declared.limits.TheConstants.{CONNECTION_BYTES}
 use Rattle.es_outside.specs.Told.{Rose}
 use Rattle.http_wire.specs.declared.request.Request.{Request}
-use Rattle.http_wire.specs.Requests.{Spells, connection_limit}
+use Rattle.http_wire.specs.Requests.{Spells}
 use Rattle.list_machine.specs.declared.event.Limits.{Limits}
 use Rattle.list_machine.specs.Run.{History}
 use Rattle.es_rest.specs.declared.connection.ConnEnd.{ConnEnd}
@@ -19,6 +20,6 @@ pub record ServesAll (limits : Limits) (seat : ℕ) (old new : History) (left af
 abbrev pub ServesWhole : Limits → ℕ → History → History → Option (List ℕ) → Option (List ℕ) → Option (List ℕ) → Option (List ℕ) → Option ℕ → ℕ → ℕ → ℕ → ℕ → ℕ → ℕ → ConnEnd → Type 0
 ServesWhole limits seat old new None after written now last begun greatest reads reads_after writes writes_after ended = Unit {0}
 ServesWhole limits seat old new (Some bytes) after written now last begun greatest reads reads_after writes writes_after ended =
-    (requests : List Request) → Spells bytes requests [] → length bytes ≤ connection_limit
+    (requests : List Request) → Spells bytes requests [] → length bytes ≤ CONNECTION_BYTES
     → (Rose reads reads_after → ⊥) → (Rose writes writes_after → ⊥)
     → (ended ≡ end.NoMemory) ⊎ ((ended ≡ end.Done) × ServesAll limits seat old new (Some bytes) after written now last begun greatest requests)

@@ -1,15 +1,13 @@
 ghost use Rattle.std.specs.Prelude.{◌≡◌, ◌⊎◌, ℕ, ◌+◌, ◌*◌, ◌<◌, ◌≤◌, max, List, [], Option, Some, None, IfOk, IfSome, IfNone, OnOk, OnErr};
+ghost use Rattle.es_types.specs.declared.limits.TheConstants.{CONNECTION_BYTES};
 ghost use Rattle.es_outside.specs.Told.{Rose};
-ghost use Rattle.http_wire.specs.Requests.{connection_limit};
 ghost use Rattle.http_wire.specs.Stream.{Wrote, WroteSome};
-ghost use Rattle.list_machine.specs.declared.event.Entry.{Entry};
-ghost use Rattle.list_machine.specs.Run.{state_of};
-ghost use Rattle.list_machine.specs.Serving.{GrowsBeside, applied};
 ghost use Rattle.es_rest.specs.Headline.{Headline};
 ghost use Rattle.es_rest.specs.Paths.{all_routes};
+ghost use Rattle.es_rest.specs.Talk.{Tended};
 ghost use Rattle.es_rest.specs.Whole.{ServesWhole};
 ghost use Rattle.reply_json.specs.Replies.{text};
-ghost use Rattle.es_rest.specs.Turns.{Answered, ClockAnswers, Closed, Exchanged, LastGoesOn, WroteBy, words_text};
+ghost use Rattle.es_rest.specs.Exchanges.{Answered, ClockAnswers, Closed, Exchanged, LastGoesOn, WroteBy, words_text};
 
 use crate::converse::respond;
 use crate::moment::told_moment;
@@ -81,8 +79,7 @@ fn write_words<L: Link>(link: &mut L, words: &Option<Bytes>, last: bool) -> Resu
 
 // What goes with a request. It is left out where the response wasn't written, and want of memory in it is dropped.
 fn tidy_up<V: Service>(service: &mut V, moment: Moment, written: bool)
-    ensures helps { (helped : List Entry) × GrowsBeside (V.seat service.old) 4 moment (V.front service.old) helped
-        × GrowsBeside (V.seat service.old) (4 + 2 * applied (state_of (V.limits service.old) helped)) moment helped (V.front service.new) }
+    ensures tended { Tended (V.limits service.old) (V.seat service.old) moment written (V.front service.old) (V.front service.new) }
     ensures seat { V.seat service.new ≡ V.seat service.old }
     ensures limits { V.limits service.new ≡ V.limits service.old }
 {
@@ -167,7 +164,7 @@ fn close<L: Link>(alloc: Global, link: &mut L, end: WireEnd) -> ConnEnd
 // The routes, and a buffer for what is read.
 fn start(alloc: Global) -> Result<(Router<Place>, Buf), NoMemory>
     ensures routes { IfOk result (λ parts. parts.0 ≡ all_routes) }
-    ensures buf { IfOk result (λ parts. parts.1 ≡ record { bytes = []; room = connection_limit }) }
+    ensures buf { IfOk result (λ parts. parts.1 ≡ record { bytes = []; room = CONNECTION_BYTES }) }
 {
     let router = routes(alloc)?;
     let buf = Buf::make(alloc)?;

@@ -1,16 +1,13 @@
 ghost use Rattle.std.specs.Prelude.{◌≡◌};
 ghost use Rattle.es_rest.specs.Moments.{is_unreadable, moment_of, told_moment};
 
-use es_types::Moment;
+use es_types::{LAST_MOMENT, Moment};
 use http_wire::{Request, number};
-
-/// The last moment, 2^53.
-const LAST: u64 = 9_007_199_254_740_992;
 
 fn moment_of(text: &[u8]) -> Option<Moment>
     ensures { result ≡ moment_of text.now }
 {
-    match number(text, 16, LAST) {
+    match number(text, 16, LAST_MOMENT) {
         Some(millis) => Moment::make(millis),
         None => None,
     }

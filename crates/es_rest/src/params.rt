@@ -3,14 +3,11 @@ ghost use Rattle.es_rest.specs.Paths.{are_digits, batch_in, batch_value, has_par
 ghost use Rattle.es_rest.specs.Route.{Answers};
 
 use doc_json::all_digits;
-use es_types::{Copied, KeepAlive, NoMemory, Text};
+use es_types::{Copied, KeepAlive, NoMemory, Text, USUAL_BATCH};
 use form_urlencoded::parse;
 use reply_json::RestFault;
 use search_json::context_keep;
 use std::alloc::Global;
-
-/// How many shards make a batch, where a search doesn't say it.
-pub const USUAL_BATCH: u32 = 512;
 
 /// A parameter of a query, decoded.
 #[derive(Drop)]

@@ -1,7 +1,8 @@
 ghost use Rattle.std.specs.Prelude.{◌≡◌, ◌≤◌, ℕ, List, None, MatchResult, is_some, length};
+ghost use Rattle.es_types.specs.declared.limits.TheConstants.{ALL_SHARDS};
 ghost use Rattle.list_machine.specs.declared.event.Reply.TheVariants as replies;
 ghost use Rattle.es_rest.specs.Led.{AreSealed, Published, RefreshWent};
-ghost use Rattle.es_rest.specs.Scripts.{CutShort, Part, Ran, Script, Strayed, behind_seal, publishes, refresh, refreshes, refusal};
+ghost use Rattle.es_rest.specs.Scripts.{CutShort, Part, RanScript, Script, Strayed, behind_seal, publishes, refresh, refreshes, refusal};
 
 use es_types::{Copied, IndexName, Items, Moment, NoMemory, Text};
 use list_machine::{Event, Reply, Service, sound_states};
@@ -74,7 +75,7 @@ fn publish_all<V: Service>(
     numbers: &[u64],
     moment: Moment,
 ) -> Result<Option<Reply>, NoMemory>
-    requires few { length numbers.now ≤ 65536 }
+    requires few { length numbers.now ≤ ALL_SHARDS }
     requires were_sealed { AreSealed (V.limits service.old) (V.front service.old) index.now numbers.now }
     ensures talk { MatchResult result
         (Published (V.limits service.old) (V.seat service.old) moment index.now numbers.now (V.front service.old) (V.front service.new))
@@ -131,7 +132,7 @@ pub fn refresh_all<V: Service>(
     moment: Moment,
 ) -> Result<Option<RestFault>, NoMemory>
     ensures talk { MatchResult result
-        (Ran (V.limits service.old) (V.seat service.old) moment (refreshes indexes.now) (V.front service.old) (V.front service.new))
+        (RanScript (V.limits service.old) (V.seat service.old) moment (refreshes indexes.now) (V.front service.old) (V.front service.new))
         (λ _. CutShort (V.limits service.old) (V.seat service.old) moment (refreshes indexes.now) (V.front service.old) (V.front service.new)) }
     ensures seat { V.seat service.new ≡ V.seat service.old }
     ensures limits { V.limits service.new ≡ V.limits service.old }

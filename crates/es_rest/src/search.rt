@@ -5,10 +5,10 @@ ghost use Rattle.list_machine.specs.Run.{IsWithinLimits};
 
 use crate::ask::{Ask, gets_or_posts, index_in};
 use crate::items::body_fault;
-use crate::params::{Param, USUAL_BATCH, batch_in, has_param, params_of};
+use crate::params::{Param, batch_in, has_param, params_of};
 use crate::pit::pit_number;
 use doc_json::BodyFault;
-use es_types::{Fail, IndexName, LimitName, NoMemory, Text};
+use es_types::{Fail, IndexName, LEAST_BATCH, LimitName, MOST_BATCH, NoMemory, Text, USUAL_BATCH};
 use http_wire::Request;
 use list_machine::Target;
 use reply_json::RestFault;
@@ -47,14 +47,14 @@ fn batch_asked(alloc: Global, request: &Request) -> Result<u32, RestFault>
 fn is_batch(batch: u32) -> bool
     ensures { result ≡ is_batch batch }
 {
-    2 <= batch && batch <= 1024
+    LEAST_BATCH <= batch && batch <= MOST_BATCH
 }
 
 // The number that the body is read with: the usual one where the query's is none.
 fn batch_used(batch: u32) -> u32
     ensures is { result ≡ batch_used batch }
     ensures least { 2 ≤ result }
-    ensures most { result ≤ 1024 }
+    ensures most { result ≤ MOST_BATCH }
 {
     if is_batch(batch) { batch } else { USUAL_BATCH }
 }
@@ -67,7 +67,7 @@ fn body_of(
     request: &Request,
 ) -> Result<Result<SearchBody, BodyFault>, NoMemory>
     requires least { 2 ≤ batch }
-    requires most { batch ≤ 1024 }
+    requires most { batch ≤ MOST_BATCH }
     ensures is { IfOk result (λ asked. asked ≡ search_of has_index batch request.now.body) }
     ensures within { IfOk result AreWithinLimits }
 {

@@ -1,6 +1,6 @@
 use Rattle.std.proofs.Common.{ap, ◌∙◌}
 use Rattle.list_machine.specs.declared.event.Reply.TheVariants.{Found}
-use Rattle.list_machine.specs.declared.search.Answer.{Answer}
+use Rattle.list_machine.specs.declared.page.request.Answer.{Answer}
 use Rattle.list_machine.specs.Views.{View, answer}
 use Rattle.es_node.proofs.search_exec.page.Goals as goal
 

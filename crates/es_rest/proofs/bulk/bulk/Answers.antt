@@ -5,7 +5,7 @@ use Rattle.list_machine.specs.declared.event.Limits.{Limits}
 use Rattle.reply_json.specs.declared.fault.RestFault.{RestFault}
 use Rattle.reply_json.specs.declared.response.Response.TheVariants as response
 use Rattle.es_rest.specs.Items.{items_of}
-use Rattle.es_rest.specs.Scripts.{CutShort, Ran, refreshes}
+use Rattle.es_rest.specs.Scripts.{CutShort, RanScript, refreshes}
 use Rattle.es_rest.proofs.BulkTalks.{bulk_cut, bulk_done, bulk_strayed}
 use Rattle.es_rest.proofs.Led.{by_names}
 use Rattle.es_rest.proofs.bulk.bulk.Goals as goal
@@ -35,8 +35,8 @@ returns-in-Some-clause-talk g c =
     let mid = s.front c.write_items.new.service in
     let new = s.front c.refresh_all.new.service in
     let are = ap (λ (i : Option (List ℕ)). items_of i c.as_slice.result.now) c.as_ref.ensures.value ∙ ap (λ (b : List ℕ). items_of c.args.index b) c.as_slice.ensures ∙ c.requires.1 in
-    let ran = by_names c.in_ok-written.ensures.limits c.in_ok-written.ensures.seat (λ (k : Limits) (i : ℕ). Ran k i c.args.moment (refreshes c.names_if.result.now) mid new (Some c.in-Some.fault))
-    (subst (λ (f : Option RestFault). Ran (s.limits c.write_items.new.service) (s.seat c.write_items.new.service) c.args.moment (refreshes c.names_if.result.now) mid new f) c.in-Some.is c.in_ok-fault.ensures.talk) in
+    let ran = by_names c.in_ok-written.ensures.limits c.in_ok-written.ensures.seat (λ (k : Limits) (i : ℕ). RanScript k i c.args.moment (refreshes c.names_if.result.now) mid new (Some c.in-Some.fault))
+    (subst (λ (f : Option RestFault). RanScript (s.limits c.write_items.new.service) (s.seat c.write_items.new.service) c.args.moment (refreshes c.names_if.result.now) mid new f) c.in-Some.is c.in_ok-fault.ensures.talk) in
     bulk_done (s.limits c.args.service.now) (s.seat c.args.service.now) c.args.moment c.args.index c.args.body c.args.refresh c.requires.0 c.requires.1 (s.front c.args.service.now) mid new
     c.in_ok-written.written c.names_if.result.now (Some c.in-Some.fault) _ (c.in_ok-written.ensures.items c.requires.0 are) c.names_if.ensures ran refl
 
@@ -46,7 +46,7 @@ returns-clause-talk g c =
     let mid = s.front c.write_items.new.service in
     let new = s.front c.refresh_all.new.service in
     let are = ap (λ (i : Option (List ℕ)). items_of i c.as_slice.result.now) c.as_ref.ensures.value ∙ ap (λ (b : List ℕ). items_of c.args.index b) c.as_slice.ensures ∙ c.requires.1 in
-    let ran = by_names c.in_ok-written.ensures.limits c.in_ok-written.ensures.seat (λ (k : Limits) (i : ℕ). Ran k i c.args.moment (refreshes c.names_if.result.now) mid new None)
-    (subst (λ (f : Option RestFault). Ran (s.limits c.write_items.new.service) (s.seat c.write_items.new.service) c.args.moment (refreshes c.names_if.result.now) mid new f) c.in-None.is c.in_ok-fault.ensures.talk) in
+    let ran = by_names c.in_ok-written.ensures.limits c.in_ok-written.ensures.seat (λ (k : Limits) (i : ℕ). RanScript k i c.args.moment (refreshes c.names_if.result.now) mid new None)
+    (subst (λ (f : Option RestFault). RanScript (s.limits c.write_items.new.service) (s.seat c.write_items.new.service) c.args.moment (refreshes c.names_if.result.now) mid new f) c.in-None.is c.in_ok-fault.ensures.talk) in
     bulk_done (s.limits c.args.service.now) (s.seat c.args.service.now) c.args.moment c.args.index c.args.body c.args.refresh c.requires.0 c.requires.1 (s.front c.args.service.now) mid new
     c.in_ok-written.written c.names_if.result.now None _ (c.in_ok-written.ensures.items c.requires.0 are) c.names_if.ensures ran (ap response.Bulk c.of.ensures)

@@ -1,5 +1,5 @@
 -- The response with its text, or the one that memory is wanting.
-use Rattle.es_rest.proofs.Turns.{answered_by}
+use Rattle.es_rest.proofs.Exchanges.{answered_by}
 use Rattle.es_rest.proofs.connection.answer.Goals as goal
 
 pub returns-clause-answered : goal.returns-clause-answered

@@ -2,7 +2,7 @@
 use Rattle.std.proofs.Common.{refl, ◌∙◌}
 use Rattle.http_wire.specs.declared.wire.WireEnd.TheVariants as wire
 use Rattle.es_rest.specs.declared.connection.ConnEnd.TheVariants as end
-use Rattle.es_rest.proofs.Turns.{closed_silent, closed_with}
+use Rattle.es_rest.proofs.Exchanges.{closed_silent, closed_with}
 use Rattle.es_rest.proofs.connection.close.Goals as goal
 
 pub returns-in-Truncated-clause-closed : goal.returns-in-Truncated-clause-closed

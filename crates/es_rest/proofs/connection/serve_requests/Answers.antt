@@ -1,7 +1,7 @@
 -- Each end, and each request more.
 use Rattle.std.proofs.Common.{refl, ◌∙◌, []}
-use Rattle.http_wire.specs.Requests.{connection_limit}
-use Rattle.http_wire.specs.Stream.{Held}
+use Rattle.es_types.specs.declared.limits.TheConstants.{CONNECTION_BYTES}
+use Rattle.http_wire.specs.Stream.{Buffered}
 use Rattle.http_wire.proofs.Flow.{unchanged}
 use Rattle.es_rest.proofs.Progress.{starts, goes_on, failed, ended, closed, next_wants}
 use Rattle.es_rest.proofs.connection.serve_requests.Goals as goal
@@ -40,7 +40,7 @@ returns-in-Err-clause-headline g c =
     let limits = s.limits c.args.service.now in
     let first = s.front c.args.service.now in
     let left = link.left c.args.link.now in
-    let held : Held = record { bytes = []; room = connection_limit } in
+    let held : Buffered = record { bytes = []; room = CONNECTION_BYTES } in
     let p = starts limits (s.seat c.args.service.now) first left (link.written c.args.link.now) (g.C.Clock.last c.args.clock.now) (g.C.Clock.greatest c.args.clock.now) 0 held refl refl in
     closed left (link.left c.close.new.link) held p refl (next_wants left left held held) c.close.ensures.left c.close.ensures.closed (c.pages_in_turn.ensures limits first)
 

@@ -1,13 +1,14 @@
--- Where the response was not written, nothing is added.
-use Rattle.std.proofs.Common.{◌+◌, ◌*◌}
-use Rattle.list_machine.specs.Run.{state_of}
-use Rattle.list_machine.specs.Serving.{applied}
-use Rattle.es_rest.proofs.Talks.{grows_not}
+-- Where the response was not written, nothing is added; else help, and then the tidying.
+use Rattle.std.proofs.Common.{refl}
+use Rattle.es_rest.proofs.Exchanges.{tended_by}
 use Rattle.es_rest.proofs.connection.tidy_up.Goals as goal
 
-pub returns-then-not-written-clause-helps : goal.returns-then-not-written-clause-helps
-returns-then-not-written-clause-helps g c =
+pub returns-then-not-written-clause-tended : goal.returns-then-not-written-clause-tended
+returns-then-not-written-clause-tended g c = rw c.if-not-written.true refl
+
+pub returns-clause-tended : goal.returns-clause-tended
+returns-clause-tended g c =
     let s = g.V.Service in
-    let front = s.front c.args.service.now in
-    let seat = s.seat c.args.service.now in
-    (front, grows_not seat 4 c.args.moment front, grows_not seat (4 + 2 * applied (state_of (s.limits c.args.service.now) front)) c.args.moment front)
+    tended_by (s.limits c.args.service.now) (s.limits c.help.new.self) (s.seat c.args.service.now) (s.seat c.help.new.self) c.args.moment c.args.written
+    (s.front c.args.service.now) (s.front c.help.new.self) (s.front c.tidy.new.self) c.if-not-written.false
+    c.help.ensures.limits c.help.ensures.seat c.help.ensures.beside c.tidy.ensures.beside

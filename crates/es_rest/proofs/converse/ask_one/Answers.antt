@@ -2,7 +2,7 @@
 use Rattle.std.proofs.Common.{sym, subst, ◌∙◌, List, ℕ}
 use Rattle.std.proofs.lemmas.Result.{err_from_is_err_and}
 use Rattle.list_machine.specs.declared.event.Limits.{Limits}
-use Rattle.es_rest.specs.Scripts.{CutShort, Ran, refreshes}
+use Rattle.es_rest.specs.Scripts.{CutShort, RanScript, refreshes}
 use Rattle.es_rest.proofs.Led.{by_names, one_cut_first, one_cut_later, one_refused, one_taken}
 use Rattle.es_rest.proofs.converse.ask_one.Goals as goal
 
@@ -35,7 +35,7 @@ returns-clause-talk g c ask label =
     let s = g.V.Service in
     let mid = s.front c.ask.new.self in
     let new = s.front c.refresh_all.new.service in
-    let ran = by_names c.in_ok-reply.ensures.limits c.in_ok-reply.ensures.seat (λ (k : Limits) (i : ℕ). Ran k i c.args.moment (refreshes c.args.label.refreshed.items) mid new c.in_ok-refused.refused)
-    (subst (λ (l : List (List ℕ)). Ran (s.limits c.ask.new.self) (s.seat c.ask.new.self) c.args.moment (refreshes l) mid new c.in_ok-refused.refused) c.deref.ensures.value c.in_ok-refused.ensures.talk) in
+    let ran = by_names c.in_ok-reply.ensures.limits c.in_ok-reply.ensures.seat (λ (k : Limits) (i : ℕ). RanScript k i c.args.moment (refreshes c.args.label.refreshed.items) mid new c.in_ok-refused.refused)
+    (subst (λ (l : List (List ℕ)). RanScript (s.limits c.ask.new.self) (s.seat c.ask.new.self) c.args.moment (refreshes l) mid new c.in_ok-refused.refused) c.deref.ensures.value c.in_ok-refused.ensures.talk) in
     one_taken (s.limits c.args.service.now) (s.seat c.args.service.now) c.args.moment ask c.args.event c.args.label.name c.args.label.route c.args.label.refreshed.items
     (s.front c.args.service.now) mid new c.in_ok-reply.reply c.in_ok-refused.refused c.settle.result label c.in_ok-reply.ensures.asked (sym c.refusal.ensures ∙ c.in-None.is) ran c.settle.ensures

@@ -1,5 +1,5 @@
 -- One shard after the other.
-use Rattle.std.proofs.Common.{◌≡◌, ◌+◌, ◌∙◌, ap, sym, subst, slice_index, List, [], ℕ, arith}
+use Rattle.std.proofs.Common.{◌≡◌, ◌+◌, ◌∙◌, ap, sym, subst, inr, slice_index, List, [], ℕ, arith}
 use Rattle.std.proofs.lemmas.Result.{err_from_is_err_and}
 use Rattle.list_machine.specs.declared.event.Event.{Event}
 use Rattle.list_machine.specs.declared.event.Event.TheVariants.{Publish}
@@ -87,7 +87,7 @@ ask-requires g c =
     let upto = slice_index numbers count in
     let now = s.front c.loop-upto.service in
     let limits = s.limits c.args.service.now in
-    subst (λ (k : Limits). HasSealed k now c.in_ok-copy.field-0 c.loop-upto.shard upto) (sym c.loop-upto.invariant.limits)
+    inr (subst (λ (k : Limits). HasSealed k now c.in_ok-copy.field-0 c.loop-upto.shard upto) (sym c.loop-upto.invariant.limits)
     (subst (λ (i : List ℕ). HasSealed limits now i c.loop-upto.shard upto) (sym c.in_ok-copy.ensures)
     (subst (λ (n : ℕ). HasSealed limits now c.args.index.now n upto) (sym c.loop-upto.invariant.shard)
-    (c.loop-upto.invariant.were_sealed count upto (at_place numbers count c.loop-upto-test.true))))
+    (c.loop-upto.invariant.were_sealed count upto (at_place numbers count c.loop-upto-test.true)))))

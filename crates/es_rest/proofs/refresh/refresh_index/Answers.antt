@@ -1,11 +1,11 @@
 -- A Seal, and a Publish of each shard where it was answered numbers.
 use Rattle.std.proofs.Common.{◌≡◌, ◌≤◌, subst, sym, length, List, ℕ, Option, Some, None}
 use Rattle.std.proofs.lemmas.Result.{err_from_is_err_and}
+use Rattle.es_types.specs.declared.limits.TheConstants.{ALL_SHARDS}
 use Rattle.list_machine.specs.declared.event.Event.TheVariants.{Seal}
 use Rattle.list_machine.specs.declared.event.Limits.{Limits}
 use Rattle.list_machine.specs.declared.event.Reply.{Reply}
 use Rattle.list_machine.specs.declared.event.Reply.TheVariants.{Sealed}
-use Rattle.list_machine.specs.State.{most_shards}
 use Rattle.list_machine.specs.Run.{History}
 use Rattle.list_machine.specs.Serving.{Asked, asked}
 use Rattle.es_rest.specs.Led.{Published}
@@ -32,8 +32,8 @@ published_as {limits} {other} {seat} {others} l s moment index numbers slice old
 pub publish_all-requires-clause-few : goal.publish_all-requires-clause-few
 publish_all-requires-clause-few g c =
     let s = g.V.Service in
-    subst (λ (n : List ℕ). length n ≤ most_shards) (sym c.as_slice.ensures)
-    (few_sealed (s.limits c.args.service.now) (s.seat c.args.service.now) c.args.moment most_shards (s.front c.args.service.now) (s.front c.ask.new.self) c.in_ok-sealed.sealed c.in-Ok.numbers c.in_ok-reply.reply
+    subst (λ (n : List ℕ). length n ≤ ALL_SHARDS) (sym c.as_slice.ensures)
+    (few_sealed (s.limits c.args.service.now) (s.seat c.args.service.now) c.args.moment ALL_SHARDS (s.front c.args.service.now) (s.front c.ask.new.self) c.in_ok-sealed.sealed c.in-Ok.numbers c.in_ok-reply.reply
     (c.sound_states.ensures.sealed (s.limits c.args.service.now)) c.in_ok-reply.ensures.asked c.in-Ok.ensures)
 
 pub returns-in_err-publish_all-in-Ok-clause-talk : goal.returns-in_err-publish_all-in-Ok-clause-talk

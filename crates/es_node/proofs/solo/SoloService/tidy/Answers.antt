@@ -1,7 +1,7 @@
 -- A Quiet more, or none.
 use Rattle.std.proofs.Common.{arith}
 use Rattle.es_node.specs.Solo.{IsRunning}
-use Rattle.es_node.proofs.Journals.{rests_on}
+use Rattle.es_node.proofs.Journals.{reaps, rests_on}
 use Rattle.es_node.proofs.solo.SoloService.tidy.Goals as goal
 
 pub invariant_of-self : goal.invariant_of-self
@@ -21,3 +21,10 @@ returns-clause-kept c =
     c.self.invariant
     (omega (arith, c.if-len-self.false, c.len.ensures)) of.rests of.journal of.core_kept of.journal_kept in
     r.kept
+
+pub returns-clause-reaped : goal.returns-clause-reaped
+returns-clause-reaped c =
+    let s = c.self.inside in
+    let of = c.reap.ensures in
+    reaps s.limits c.args.moment s.core c.reap.new.core s.journal.items c.reap.new.journal.items c.reap.result c.self.invariant
+    (omega (arith, c.if-len-self.false, c.len.ensures)) of.rests of.left of.journal

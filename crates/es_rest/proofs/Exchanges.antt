@@ -1,5 +1,6 @@
 -- Requests and their responses in turn.
-use Rattle.std.proofs.Common.{◌≡◌, refl, sym, ap, subst, inl, inr, ⊎_elim, ◌⊎◌, ℕ, ◌+◌, ◌*◌, List, [], Option, Some, None, IfSome, Result}
+use Rattle.std.proofs.Common.{◌≡◌, refl, sym, ap, subst, inl, inr, ⊎_elim, ◌⊎◌, ℕ, ◌+◌, ◌*◌, Bool, true, List, [], Option, Some, None, IfSome, Result}
+use Rattle.std.specs.Result.{is_ok}
 use Rattle.std.proofs.lemmas.List.{append-nil}
 use Rattle.http_wire.specs.declared.wire.WireEnd.{WireEnd}
 use Rattle.http_wire.specs.Stream.{Wrote, WroteSome}
@@ -8,14 +9,14 @@ use Rattle.es_rest.specs.declared.connection.ConnEnd.{ConnEnd}
 use Rattle.es_rest.specs.declared.connection.ConnEnd.TheVariants as end
 use Rattle.reply_json.specs.Replies.{text}
 use Rattle.es_rest.specs.Headline.{last_words}
-use Rattle.es_rest.specs.Turns.{Aims, Answered, Closed, Exchanged, WroteBy, words_text}
+use Rattle.es_rest.specs.Exchanges.{Aims, Answered, Closed, Exchanged, WroteBy, words_text}
 use Rattle.http_wire.specs.declared.request.Request.{Request}
 use Rattle.list_machine.specs.declared.event.Limits.{Limits}
 use Rattle.list_machine.specs.Run.{History, state_of}
 use Rattle.reply_json.specs.declared.response.Response.{Response}
 use Rattle.reply_json.specs.declared.response.Response.TheVariants.{Fault}
 use Rattle.reply_json.specs.declared.fault.RestFault.TheVariants.{NoMemory}
-use Rattle.es_rest.specs.Talk.{Responds}
+use Rattle.es_rest.specs.Talk.{Responds, Tended}
 
 -- a response that could not be printed is the one that memory is wanting
 pub wants_instead : (limits : Limits) (seat moment : ℕ) (old new : History) (request : Request) (response : Response)
@@ -61,20 +62,32 @@ answered_by limits seat moment old new request response None h some =
     record { response = Fault NoMemory; responds = wants_instead limits seat moment old new request response h; words_are = refl }
 answered_by limits seat moment old new request response (Some bytes) h some = record { response = response; responds = h; words_are = some }
 
--- what goes with a request, by other names of its seat and limits
-abbrev pub Helps : Limits → ℕ → ℕ → History → History → Type 0
-Helps limits seat moment old new = (helped : History) × GrowsBeside seat 4 moment old helped × GrowsBeside seat (4 + 2 * applied (state_of limits helped)) moment helped new
+-- after a response that was written whole: the tidying by other names of its seat and limits
+pub tended_by : (limits other : Limits) (seat others moment : ℕ) (written : Bool) (old helped new : History) → written ≡ true → other ≡ limits → others ≡ seat
+    → GrowsBeside seat 4 moment old helped → GrowsBeside others (4 + 2 * applied (state_of other helped)) moment helped new → Tended limits seat moment written old new
+tended_by limits other seat others moment written old helped new is l s helps tidies =
+    subst (λ (b : Bool). Tended limits seat moment b old new) (sym is)
+    (record {
+      helped = helped;
+      helps = helps;
+      tidies = subst (λ (k : Limits). GrowsBeside seat (4 + 2 * applied (state_of k helped)) moment helped new) l
+          (subst (λ (t : ℕ). GrowsBeside t (4 + 2 * applied (state_of other helped)) moment helped new) s tidies);
+    })
 
-pub exchanged_by : (limits other : Limits) (seat others moment : ℕ) (front mid after : History) (request : Request) (words : List ℕ) (written now : Option (List ℕ)) {E : Type 0} (result : Result (Unit {0}) E)
-    → other ≡ limits → others ≡ seat → Answered limits seat moment front mid request words → WroteBy written now words result → Helps other others moment mid after
+-- a request, its response, and what goes with it by other names of its seat and limits
+pub exchanged_by : (limits other : Limits) (seat others moment : ℕ) (front mid after : History) (request : Request) (words : List ℕ) (written now : Option (List ℕ)) {E : Type 0} (result : Result (Unit {0}) E) (whole : Bool)
+    → other ≡ limits → others ≡ seat → Answered limits seat moment front mid request words → WroteBy written now words result
+    → whole ≡ is_ok result → Tended other others moment whole mid after
     → Exchanged limits seat moment front after request written now result
-exchanged_by limits other seat others moment front mid after request words written now {E} result l s answered wrote helps =
-    let h : Helps limits seat moment mid after = subst (λ (k : Limits). Helps k seat moment mid after) l (subst (λ (t : ℕ). Helps other t moment mid after) s helps) in
+exchanged_by limits other seat others moment front mid after request words written now {E} result whole l s answered wrote marked tended =
+    let h : Tended limits seat moment whole mid after
+    = subst (λ (k : Limits). Tended k seat moment whole mid after) l (subst (λ (t : ℕ). Tended other t moment whole mid after) s tended) in
     record {
-      x = record { request = request; moment = moment; response = answered.response };
+      x = record { request = request; moment = moment; response = answered.response; written = whole };
       request_is = refl;
       moment_is = refl;
-      served = record { answered = mid; helped = h.0; responds = answered.responds; helps = h.1; tidies = h.2 };
+      written_is = marked;
+      served = record { answered = mid; responds = answered.responds; tended = h };
       wrote = subst (λ (w : List ℕ). WroteBy written now w result) answered.words_are wrote;
     }
 

@@ -1,5 +1,6 @@
 -- What one request and its response make of a connection, and how a connection is closed.
 use Rattle.std.specs.Prelude.{◌≡◌, ◌⊎◌, ℕ, max, Bool, List, Option, Some, None, Result, Ok, Err}
+use Rattle.std.specs.Result.{is_ok}
 use Rattle.http_wire.specs.declared.request.Request.{Request}
 use Rattle.http_wire.specs.declared.wire.WireEnd.{WireEnd}
 use Rattle.http_wire.specs.declared.wire.WireEnd.TheVariants as wire
@@ -41,11 +42,12 @@ LastGoesOn (Some last) after request old new = (after ≡ Some (clock_answer las
 abbrev pub ClockAnswers : ℕ → ℕ → ℕ → ℕ → Type 0
 ClockAnswers old new greatest great = (answer : ℕ) × (new ≡ max old answer) × (great ≡ max greatest answer)
 
--- a request was served at a moment
+-- a request was served at a moment, and its response was written whole exactly where that is answered
 pub record Exchanged (limits : Limits) (seat moment : ℕ) (front after : History) (request : Request) (written now : Option (List ℕ)) {E : Type 0} (result : Result (Unit {0}) E) : Type 0 where
   pub x : Exchange
   pub request_is : x.request ≡ request
   pub moment_is : x.moment ≡ moment
+  pub written_is : x.written ≡ is_ok result
   pub served : Served limits seat front after x
   pub wrote : WroteBy written now (text x.response request.last) result
 
