@@ -1,13 +1,11 @@
 //! The calls of `es_types` on mappings, documents and shards.
-ghost use Rattle.std.specs.Prelude.{IfOk};
-ghost use Rattle.list_machine.specs.Objects.{IsObject};
-
-use crate::values::{braces, copies, text};
+use crate::values::{bytes, copies, text};
 use es_types::{
-    Doc, DocCause, DocId, DocValue, Fail as Failure, Field, FieldKind, FieldName, Items, Mapping,
-    Member, Value, fit_doc, shard_of,
+    Doc, DocCause, DocFault, DocId, DocValue, Fail as Failure, Field, FieldKind, FieldName, Items,
+    Mapping, Member, Value, fit_doc, shard_of,
 };
 use std::alloc::Global;
+use std::fmt;
 use std::process::Abort;
 use std::test::Fail;
 
@@ -54,59 +52,56 @@ fn members(alloc: Global, given: &str) -> Result<Items<Member>, Fail> {
 }
 
 // A document with these members, which stand in a line.
-pub(crate) fn document(alloc: Global, given: &str) -> Result<Doc, Fail>
-    ensures { IfOk result (λ doc. IsObject doc.source) }
-{
+pub(crate) fn document(alloc: Global, given: &str) -> Result<Doc, Fail> {
     let members = members(alloc, given)?;
-    let source = braces(alloc)?;
+    let source = bytes(alloc, b"{}")?;
     Ok(Doc { source, members })
 }
 
-// Pushes each value in brackets.
-fn push_values(alloc: Global, out: &mut String, values: &[Value]) -> Result<(), Fail> {
-    for value in values {
-        match value {
-            Value::Key(key) => out.push_str(&format!(in alloc; "[{}]", key.as_str())?)?,
-            Value::Long(number) => out.push_str(&format!(in alloc; "[{number}]")?)?,
-            Value::Missing => out.push_str("[]")?,
-        }
-    }
-    Ok(())
-}
-
-pub(crate) fn cause(cause: DocCause) -> &'static str {
+fn cause(cause: DocCause) -> &'static str {
     match cause {
         DocCause::Kind => "kind",
         DocCause::TooLong => "long",
     }
 }
 
-// Pushes what a document with these members gives the fields.
-fn push_fitted(
-    alloc: Global,
-    out: &mut String,
-    mapping: &Mapping,
-    given: &str,
-) -> Result<(), Fail> {
-    let doc = document(alloc, given)?;
-    match fit_doc(alloc, mapping, &doc) {
-        Ok(values) => push_values(alloc, out, values.as_slice())?,
-        Err(Failure::Is(fault)) => {
-            let cause = cause(fault.cause);
-            out.push_str(&format!(in alloc; "{cause} {}", fault.field)?)?;
+// What a document gives the fields: each value in brackets, or the fault.
+#[derive(Drop)]
+struct FittedText<'a> {
+    fitted: &'a Result<Items<Value>, Failure<DocFault>>,
+}
+
+impl fmt::Display for FittedText<'_> {
+    fn fmt<W: fmt::Write>(&self, f: &mut fmt::Formatter<W>) -> fmt::Result {
+        match self.fitted {
+            Ok(values) => {
+                for value in values.as_slice() {
+                    match value {
+                        Value::Key(key) => write!(f, "[{}]", key.as_str())?,
+                        Value::Long(number) => write!(f, "[{number}]")?,
+                        Value::Missing => write!(f, "[]")?,
+                    }
+                }
+                Ok(())
+            }
+            Err(Failure::Is(fault)) => write!(f, "{} {}", cause(fault.cause), fault.field),
+            Err(Failure::NoMemory) => write!(f, "no memory"),
         }
-        Err(Failure::NoMemory) => out.push_str("no memory")?,
     }
-    Ok(())
+}
+
+// What a document with these members gives the fields.
+fn fitted_text(alloc: Global, mapping: &Mapping, given: &str) -> Result<String, Fail> {
+    let doc = document(alloc, given)?;
+    let fitted = fit_doc(alloc, mapping, &doc);
+    Ok(format!(in alloc; "{}", FittedText { fitted: &fitted })?)
 }
 
 // A line has the members of a document, and what they have to give the fields.
 fn gives(rt: &impl Abort, alloc: Global, mapping: &Mapping, lines: &str) -> Result<(), Fail> {
-    let mut found = String::new(alloc);
     for line in lines.lines() {
         let (given, want) = line.split_once("-> ").ok_or("values")?;
-        found.clear();
-        push_fitted(alloc, &mut found, mapping, given)?;
+        let found = fitted_text(alloc, mapping, given)?;
         assert_eq!(rt; found.as_str(), want, "of {given}");
     }
     Ok(())

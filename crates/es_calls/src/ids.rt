@@ -6,7 +6,7 @@ use std::alloc::Global;
 use std::test::Fail;
 
 #[test]
-fn ids_at_the_borders(rt: HostRuntime) -> Result<(), Fail> {
+fn ids_at_the_borders(rt: HostRuntime) {
     for kind in [Kind::Pit, Kind::Scroll, Kind::Task] {
         for (number, made) in [
             (0, false),
@@ -19,7 +19,6 @@ fn ids_at_the_borders(rt: HostRuntime) -> Result<(), Fail> {
             assert_eq!(rt; id, if made { Some(number) } else { None });
         }
     }
-    Ok(())
 }
 
 // A word for the kind.
@@ -32,13 +31,10 @@ fn word(kind: Kind) -> &'static str {
 }
 
 // The kind and the number that a text is read as.
-fn read(alloc: Global, text: &str) -> Result<String, Fail> {
+fn read(text: &str) -> (&'static str, u64) {
     match ContextId::read_text(text.as_bytes()) {
-        Ok(ContextId { kind, number }) => {
-            let kind = word(kind);
-            Ok(format!(in alloc; "{kind} {number}")?)
-        }
-        Err(_) => Ok(String::from_str(alloc, "bad")?),
+        Ok(ContextId { kind, number }) => (word(kind), number),
+        Err(_) => ("bad", 0),
     }
 }
 
@@ -46,10 +42,8 @@ fn read(alloc: Global, text: &str) -> Result<String, Fail> {
 fn is_printed_as(alloc: Global, kind: Kind, number: u64, text: &str) -> Result<bool, Fail> {
     let id = ContextId::make(kind, number).ok_or("an id")?;
     let printed = id.to_text(alloc)?;
-    let kind = word(kind);
-    let wanted = format!(in alloc; "{kind} {number}")?;
-    let found = read(alloc, text)?;
-    Ok(printed.as_str() == text && found == wanted)
+    let found = read(text);
+    Ok(printed.as_str() == text && found.0 == word(kind) && found.1 == number)
 }
 
 #[test]
@@ -78,8 +72,7 @@ fn texts_of_ids(rt: HostRuntime) -> Result<(), Fail> {
 }
 
 #[test]
-fn texts_of_no_ids(rt: HostRuntime) -> Result<(), Fail> {
-    let alloc = rt.alloc();
+fn texts_of_no_ids(rt: HostRuntime) {
     for text in [
         "",
         "U",
@@ -107,10 +100,8 @@ fn texts_of_no_ids(rt: HostRuntime) -> Result<(), Fail> {
         "UP__________",
         "UAEAAAAAAAAA",
     ] {
-        let found = read(alloc, text)?;
-        assert_eq!(rt; found.as_str(), "bad", "{text}");
+        assert_eq!(rt; read(text).0, "bad", "{text}");
     }
-    Ok(())
 }
 
 #[test]

@@ -1,28 +1,17 @@
-//! Each public call of the libraries, called with stated answers.
+//! Each public call of the crates that the machine stands on or beside, called with stated answers: values and fields, ids,
+//! queries, sorts, slices, readers, what is outside, and requests on the wire. `es_calls_core` has those of the crates above.
 #![tactic(auto)]
 
 #[cfg(test)]
-mod contexts;
-#[cfg(test)]
-mod events;
-#[cfg(test)]
 mod fields;
-#[cfg(test)]
-mod histories;
 #[cfg(test)]
 mod ids;
 #[cfg(test)]
-mod lent;
-#[cfg(test)]
 mod outside;
-#[cfg(test)]
-mod plans;
 #[cfg(test)]
 mod queries;
 #[cfg(test)]
 mod readers;
-#[cfg(test)]
-mod replies;
 #[cfg(test)]
 mod slices;
 #[cfg(test)]

@@ -73,7 +73,7 @@ fn sinks(rt: HostRuntime) -> Result<(), Fail> {
 }
 
 #[test]
-fn pairs_and_clocks(rt: HostRuntime) -> Result<(), Fail> {
+fn pairs(rt: HostRuntime) -> Result<(), Fail> {
     let alloc = rt.alloc();
     let mut source = digits(alloc, 3)?;
     let mut sink = five(alloc, 4, 0)?;
@@ -83,6 +83,11 @@ fn pairs_and_clocks(rt: HostRuntime) -> Result<(), Fail> {
     }
     drop(pair);
     assert_eq!(rt; sink.bytes(), b"01234".as_slice());
+    Ok(())
+}
+
+#[test]
+fn clocks(rt: HostRuntime) {
     let mut clock = ReplayClock::make();
     for (told, want) in [
         (None, 0),
@@ -93,5 +98,4 @@ fn pairs_and_clocks(rt: HostRuntime) -> Result<(), Fail> {
     ] {
         assert_eq!(rt; ask(&mut clock, told), want);
     }
-    Ok(())
 }

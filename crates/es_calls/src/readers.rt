@@ -3,17 +3,24 @@ ghost use Rattle.std.specs.Prelude.{◌≡◌, IfOk};
 
 use reader_gate::{Ended, Owner, Pass, make_reader};
 use std::alloc::Global;
+use std::process::Abort;
 use std::sync::Arc;
 use std::test::Fail;
 use std::thread::join;
 
-fn reader_of(alloc: Global, number: u64) -> Result<Owner<u64>, Fail>
+fn owner_of(alloc: Global, body: Arc<u64>) -> Result<Owner<u64>, Fail>
     ensures { IfOk result (λ o. o.lent ≡ 0) }
 {
-    match make_reader(alloc, Arc::new(alloc, number)?) {
+    match make_reader(alloc, body) {
         Ok(owner) => Ok(owner),
         Err(_) => Err("a reader".into()),
     }
+}
+
+fn reader_of(alloc: Global, number: u64) -> Result<Owner<u64>, Fail>
+    ensures { IfOk result (λ o. o.lent ≡ 0) }
+{
+    owner_of(alloc, Arc::new(alloc, number)?)
 }
 
 #[test]
@@ -41,40 +48,54 @@ fn a_shut_alone_ends_a_reader(rt: HostRuntime) -> Result<(), Fail> {
     Ok(())
 }
 
-#[test]
-fn a_drop_lets_its_hold_go(rt: HostRuntime) -> Result<(), Fail> {
-    let body = Arc::new(rt.alloc(), 9u64)?;
-    let kept = Arc::try_clone(&body)?;
-    let mut owner = make_reader(rt.alloc(), body).ok().ok_or("a reader")?;
-    let first = owner.lend(rt.alloc())?;
-    let second = owner.lend(rt.alloc())?;
+// The last pass ends it behind the owner and the other pass.
+fn a_pass_outlives(rt: &impl Abort, alloc: Global, kept: &Arc<u64>) -> Result<(), Fail> {
+    let mut owner = owner_of(alloc, Arc::try_clone(kept)?)?;
+    let first = owner.lend(alloc)?;
+    let second = owner.lend(alloc)?;
     drop(owner);
     drop(first);
     let ended = second.leave().ok_or("the end")?;
-    assert!(rt; *ended.spend() == 9 && Arc::strong_count(&kept) == 1);
-    let mut owner = make_reader(rt.alloc(), Arc::try_clone(&kept)?)
-        .ok()
-        .ok_or("a reader")?;
-    drop(owner.lend(rt.alloc())?);
-    let ended = owner.shut().ok_or("the end")?;
-    drop(ended);
-    drop(reader_of(rt.alloc(), 1)?);
-    assert_eq!(rt; Arc::strong_count(&kept), 1);
-    let mut owner = make_reader(rt.alloc(), Arc::try_clone(&kept)?)
-        .ok()
-        .ok_or("a reader")?;
-    let pass = owner.lend(rt.alloc())?;
+    assert_eq!(rt; *ended.spend(), 9);
+    Ok(())
+}
+
+fn an_end_is_dropped(alloc: Global, kept: &Arc<u64>) -> Result<(), Fail> {
+    let mut owner = owner_of(alloc, Arc::try_clone(kept)?)?;
+    drop(owner.lend(alloc)?);
+    drop(owner.shut().ok_or("the end")?);
+    Ok(())
+}
+
+fn an_owner_is_dropped(rt: &impl Abort, alloc: Global, kept: &Arc<u64>) -> Result<(), Fail> {
+    let mut owner = owner_of(alloc, Arc::try_clone(kept)?)?;
+    let pass = owner.lend(alloc)?;
     drop(owner);
-    assert!(rt; Arc::strong_count(&kept) > 1);
+    assert!(rt; Arc::strong_count(kept) > 1);
     drop(pass);
-    assert_eq!(rt; Arc::strong_count(&kept), 1);
-    let mut owner = make_reader(rt.alloc(), Arc::try_clone(&kept)?)
-        .ok()
-        .ok_or("a reader")?;
-    let pass = owner.lend(rt.alloc())?;
-    drop(pass);
-    assert!(rt; Arc::strong_count(&kept) > 1);
+    Ok(())
+}
+
+fn a_pass_is_dropped(rt: &impl Abort, alloc: Global, kept: &Arc<u64>) -> Result<(), Fail> {
+    let mut owner = owner_of(alloc, Arc::try_clone(kept)?)?;
+    drop(owner.lend(alloc)?);
+    assert!(rt; Arc::strong_count(kept) > 1);
     drop(owner);
+    Ok(())
+}
+
+// What is held is counted by the body, which is kept here once.
+#[test]
+fn a_drop_lets_its_hold_go(rt: HostRuntime) -> Result<(), Fail> {
+    let alloc = rt.alloc();
+    let kept = Arc::new(alloc, 9u64)?;
+    a_pass_outlives(&rt, alloc, &kept)?;
+    assert_eq!(rt; Arc::strong_count(&kept), 1);
+    an_end_is_dropped(alloc, &kept)?;
+    assert_eq!(rt; Arc::strong_count(&kept), 1);
+    an_owner_is_dropped(&rt, alloc, &kept)?;
+    assert_eq!(rt; Arc::strong_count(&kept), 1);
+    a_pass_is_dropped(&rt, alloc, &kept)?;
     assert_eq!(rt; Arc::strong_count(&kept), 1);
     Ok(())
 }

@@ -1,53 +1,30 @@
 //! The calls of `es_sort`.
-ghost use Rattle.std.specs.Prelude.{◌≡◌, IfOk, length};
-
 use crate::fields::mapping_of_n;
-use crate::values::{braces, copies, text};
+use crate::values::{bytes, copies, text};
 use es_sort::{Keys, SortBy, SortKey, SortSpec, strict_total_order};
-use es_types::{DocId, Items, NoMemory, Row, Value};
+use es_types::{DocId, Items, Mapping, NoMemory, Row, Value};
 use std::alloc::Global;
 use std::cmp::Ordering;
+use std::fmt;
 use std::test::Fail;
 
-pub(crate) fn by(keys: Vec<SortKey>, show_place: bool) -> SortSpec
-    ensures { result ≡ record { keys = keys.items; show_place = show_place } }
-{
-    SortSpec {
-        keys: Items::of(keys),
-        show_place,
-    }
-}
-
-pub(crate) fn field_key(
-    alloc: Global,
-    name: &str,
-    down: bool,
-    missing_first: bool,
-) -> Result<SortKey, NoMemory> {
-    Ok(SortKey {
-        by: SortBy::Field(text(alloc, name)?),
-        down,
-        missing_first,
-    })
-}
-
-pub(crate) fn value_text(alloc: Global, value: &Value) -> Result<String, NoMemory> {
-    match value {
-        Value::Key(key) => String::from_str(alloc, key.as_str()),
-        Value::Long(number) => format!(in alloc; "{number}"),
-        Value::Missing => String::from_str(alloc, "missing"),
-    }
+#[derive(Drop)]
+struct ValuesText<'a> {
+    values: &'a [Value],
 }
 
 // Values in a line, with a blank behind each.
-fn values_text(alloc: Global, values: &[Value]) -> Result<String, NoMemory> {
-    let mut line = String::new(alloc);
-    for value in values {
-        let value = value_text(alloc, value)?;
-        line.push_str(value.as_str())?;
-        line.push_str(" ")?;
+impl fmt::Display for ValuesText<'_> {
+    fn fmt<W: fmt::Write>(&self, f: &mut fmt::Formatter<W>) -> fmt::Result {
+        for value in self.values {
+            match value {
+                Value::Key(key) => write!(f, "{} ", key.as_str())?,
+                Value::Long(number) => write!(f, "{number} ")?,
+                Value::Missing => write!(f, "missing ")?,
+            }
+        }
+        Ok(())
     }
-    Ok(line)
 }
 
 // A word: a whole number, `-` for no value, or else a text.
@@ -74,34 +51,53 @@ fn keys_of(alloc: Global, line: &str) -> Result<Keys, NoMemory> {
     })
 }
 
-// A sort by the whole number `n`, and behind it by the place where that is a key too.
-fn sort_of(alloc: Global, line: &str) -> Result<SortSpec, Fail> {
+// A key by a field or by the place: `n`, `n-` down, `first-n` with those that have no value first.
+fn key(alloc: Global, word: &str) -> Result<SortKey, NoMemory> {
+    let name = word.strip_prefix("first-").unwrap_or(word);
+    let name = name.strip_suffix("-").unwrap_or(name);
+    let by = match name {
+        "place" => SortBy::Place,
+        _ => SortBy::Field(text(alloc, name)?),
+    };
+    Ok(SortKey {
+        by,
+        down: word.ends_with("-"),
+        missing_first: word.starts_with("first-"),
+    })
+}
+
+// A sort by the keys of a line, which may end with `shown`, for the place.
+fn sort_of(alloc: Global, line: &str) -> Result<SortSpec, NoMemory> {
     let mut keys = Vec::new(alloc);
     for word in line.split(' ') {
-        match word {
-            "n" => keys.push(field_key(alloc, "n", false, false)?)?,
-            "n-" => keys.push(field_key(alloc, "n", true, false)?)?,
-            "first-n" => keys.push(field_key(alloc, "n", false, true)?)?,
-            "first-n-" => keys.push(field_key(alloc, "n", true, true)?)?,
-            "m" => keys.push(field_key(alloc, "m", false, false)?)?,
-            "place-" => keys.push(SortKey {
-                by: SortBy::Place,
-                down: true,
-                missing_first: false,
-            })?,
-            _ => {}
+        if !word.is_empty() && word != "shown" {
+            keys.push(key(alloc, word)?)?;
         }
     }
-    Ok(by(keys, line.ends_with(" shown")))
+    Ok(SortSpec {
+        keys: Items::of(keys),
+        show_place: line.ends_with("shown"),
+    })
 }
 
 fn row_of(alloc: Global, value: Value) -> Result<Row, Fail> {
     Ok(Row {
         seq: 1,
         id: DocId::make(text(alloc, "a")?).ok().ok_or("an id")?,
-        source: braces(alloc)?,
+        source: bytes(alloc, b"{}")?,
         values: Items::of(vec![in alloc; value]?),
     })
+}
+
+// The key of the third row, which has that value.
+fn key_of(alloc: Global, mapping: &Mapping, sort: &SortSpec, value: &str) -> Result<Keys, Fail> {
+    let row = row_of(alloc, value_of(alloc, value)?)?;
+    Ok(sort.key_of(alloc, mapping, &row, 2)?)
+}
+
+fn keys_text(alloc: Global, keys: &Keys) -> Result<String, NoMemory> {
+    let values = keys.values.as_slice();
+    Ok(format!(in alloc; "{}", ValuesText { values })?)
 }
 
 #[test]
@@ -118,14 +114,13 @@ fn keys_of_rows(rt: HostRuntime) -> Result<(), Fail> {
         ("n n-", "5", "5 5 2 ", 2),
     ] {
         let sort = sort_of(alloc, sort)?;
-        let row = row_of(alloc, value_of(alloc, value)?)?;
-        let key = sort.key_of(alloc, &mapping, &row, 2)?;
-        let found = values_text(alloc, key.values.as_slice())?;
-        assert_eq!(rt; found.as_str(), want);
         assert_eq!(rt; sort.shown(), shown);
         assert!(rt; sort.fit(&mapping).is_ok());
         assert!(rt; copies(alloc, &sort));
+        let key = key_of(alloc, &mapping, &sort, value)?;
         assert!(rt; copies(alloc, &key));
+        let found = keys_text(alloc, &key)?;
+        assert_eq!(rt; found.as_str(), want);
     }
     strict_total_order();
     Ok(())

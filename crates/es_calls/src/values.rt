@@ -1,7 +1,4 @@
 //! The calls of `es_types`.
-ghost use Rattle.std.specs.Prelude.{IfOk};
-ghost use Rattle.list_machine.specs.Objects.{IsObject};
-
 use crate::fields::document;
 use es_types::{
     Bytes, Copied, DocId, DocValue, FieldName, IndexName, Items, KeepAlive, Moment, NoMemory, Op,
@@ -18,26 +15,19 @@ pub(crate) fn bytes(alloc: Global, bytes: &[u8]) -> Result<Bytes, NoMemory> {
     Ok(Bytes::of(Vec::from_slice(alloc, bytes)?))
 }
 
-// The object without members.
-pub(crate) fn braces(alloc: Global) -> Result<Bytes, NoMemory>
-    ensures { IfOk result IsObject }
-{
-    Ok(Bytes::of(Vec::from_slice(alloc, b"{}")?))
-}
-
 // What this text can name: a document, an index or a field.
-fn names(alloc: Global, name: &str) -> Result<String, NoMemory> {
-    let mut names = String::new(alloc);
-    if DocId::make(text(alloc, name)?).is_ok() {
-        names.push_str("id")?;
-    }
-    if IndexName::make(text(alloc, name)?).is_ok() {
-        names.push_str(" index")?;
-    }
-    if FieldName::make(text(alloc, name)?).is_ok() {
-        names.push_str(" field")?;
-    }
-    Ok(names)
+fn names(alloc: Global, name: &str) -> Result<&'static str, NoMemory> {
+    let id = DocId::make(text(alloc, name)?).is_ok();
+    let index = IndexName::make(text(alloc, name)?).is_ok();
+    let field = FieldName::make(text(alloc, name)?).is_ok();
+    Ok(match (id, index, field) {
+        (true, true, true) => "id index field",
+        (true, true, false) => "id index",
+        (true, false, true) => "id field",
+        (true, false, false) => "id",
+        (false, false, false) => "",
+        _ => "no id",
+    })
 }
 
 #[test]
@@ -52,8 +42,7 @@ fn names_at_the_borders(rt: HostRuntime) -> Result<(), Fail> {
         (513, ""),
     ] {
         let name = "x".repeat(alloc, count)?;
-        let found = names(alloc, &name)?;
-        assert_eq!(rt; found.as_str(), want, "{count} bytes");
+        assert_eq!(rt; names(alloc, &name)?, want, "{count} bytes");
     }
     for (name, want) in [
         ("docs", "id index field"),
@@ -69,8 +58,7 @@ fn names_at_the_borders(rt: HostRuntime) -> Result<(), Fail> {
         ("a/b", "id field"),
         ("\u{e9}", "id field"),
     ] {
-        let found = names(alloc, name)?;
-        assert_eq!(rt; found.as_str(), want, "{name}");
+        assert_eq!(rt; names(alloc, name)?, want, "{name}");
     }
     Ok(())
 }

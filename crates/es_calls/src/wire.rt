@@ -1,50 +1,53 @@
 //! The calls of `http_wire`.
 use crate::values::bytes;
-use es_outside::{MemSink, MemSource, Pair};
-use es_types::Items;
+use es_outside::{Link, MemSink, MemSource, Pair};
+use es_types::{Bytes, Items};
 use http_wire::{Buf, Request, WireEnd, next_request, one_cut, write_all};
 use std::alloc::Global;
 use std::process::Abort;
 use std::test::Fail;
 
-// How many requests these bytes are, why no more come, if not by a clean end, and the last request. The bytes come
-// in such pieces, and one read fails.
-fn came(
-    alloc: Global,
-    stream: &[u8],
-    piece: u32,
-    failing: u64,
-) -> Result<(u32, Option<WireEnd>, Option<Request>), Fail> {
-    let failing = Items::of(vec![in alloc; failing]?);
-    let mut source = MemSource::make(bytes(alloc, stream)?, piece.max(1), failing);
-    let mut sink = MemSink::make(alloc, 0, 1, Items::of(Vec::new(alloc)))?;
-    let mut link = Pair::make(&mut source, &mut sink);
-    let mut buf = Buf::make(alloc)?;
-    let mut last = None;
-    for count in 0..9 {
-        match next_request(alloc, &mut link, &mut buf) {
-            Ok(Some(request)) => last = Some(request),
-            Ok(None) => return Ok((count, None, last)),
-            Err(end) => return Ok((count, Some(end), last)),
-        }
+fn end_text(end: &WireEnd) -> &'static str {
+    match end {
+        WireEnd::Truncated => " truncated",
+        WireEnd::NotBuilt => " not built",
+        WireEnd::ReadFault => " read fault",
+        WireEnd::TooMuch => " too much",
+        WireEnd::NoMemory => " no memory",
     }
-    Ok((9, None, last))
 }
 
-fn end_text(end: Option<WireEnd>) -> &'static str {
-    match end {
-        None => "",
-        Some(WireEnd::Truncated) => " truncated",
-        Some(WireEnd::NotBuilt) => " not built",
-        Some(WireEnd::ReadFault) => " read fault",
-        Some(WireEnd::TooMuch) => " too much",
-        Some(WireEnd::NoMemory) => " no memory",
+// How many requests come, and why no more do, if not by a clean end.
+fn came<L: Link>(alloc: Global, link: &mut L, buf: &mut Buf) -> (u32, &'static str) {
+    for count in 0..9 {
+        match next_request(alloc, link, buf) {
+            Ok(Some(_)) => {}
+            Ok(None) => return (count, ""),
+            Err(end) => return (count, end_text(&end)),
+        }
     }
+    (9, "")
+}
+
+fn no_sink(alloc: Global) -> Result<MemSink, Fail> {
+    Ok(MemSink::make(alloc, 0, 1, Items::of(Vec::new(alloc)))?)
+}
+
+fn came_of(alloc: Global, source: &mut MemSource) -> Result<(u32, &'static str), Fail> {
+    let mut buf = Buf::make(alloc)?;
+    let mut sink = no_sink(alloc)?;
+    Ok(came(alloc, &mut Pair::make(source, &mut sink), &mut buf))
+}
+
+// These bytes, in such pieces, where one read fails.
+fn source(alloc: Global, stream: &[u8], piece: u32, failing: u64) -> Result<MemSource, Fail> {
+    let failing = Items::of(vec![in alloc; failing]?);
+    Ok(MemSource::make(bytes(alloc, stream)?, piece.max(1), failing))
 }
 
 fn came_text(alloc: Global, stream: &[u8], piece: u32, failing: u64) -> Result<String, Fail> {
-    let (count, end, _) = came(alloc, stream, piece, failing)?;
-    let end = end_text(end);
+    let mut source = source(alloc, stream, piece, failing)?;
+    let (count, end) = came_of(alloc, &mut source)?;
     Ok(format!(in alloc; "{count}{end}")?)
 }
 
@@ -109,21 +112,49 @@ fn heads(rt: HostRuntime) -> Result<(), Fail> {
     Ok(())
 }
 
-// The last of these requests, which closes nothing, and the moment that it hands in, in angle brackets.
-fn last_text(alloc: Global, stream: &str) -> Result<String, Fail> {
-    let last = came(alloc, stream.as_bytes(), 5, 0)?.2.ok_or("a request")?;
-    if last.last {
+// The last request of the link, where there is one.
+fn last_of<L: Link>(alloc: Global, link: &mut L, buf: &mut Buf) -> Option<Request> {
+    let mut last = None;
+    for _count in 0..9 {
+        match next_request(alloc, link, buf) {
+            Ok(Some(request)) => last = Some(request),
+            _ => break,
+        }
+    }
+    last
+}
+
+fn shown(bytes: &Bytes) -> &str {
+    str::from_utf8(bytes.as_slice()).unwrap_or("no text")
+}
+
+// A request, which closes nothing, or the moment that it hands in, in angle brackets.
+fn request_text(alloc: Global, request: &Request) -> Result<String, Fail> {
+    if request.last {
         return Ok(String::from_str(alloc, "the last one")?);
     }
-    if let Some(moment) = &last.moment {
-        let moment = str::from_utf8(moment.as_slice()).ok().ok_or("text")?;
-        return Ok(format!(in alloc; "<{moment}>")?);
+    if let Some(moment) = &request.moment {
+        return Ok(format!(in alloc; "<{}>", shown(moment))?);
     }
-    let method = last.method.as_str();
-    let path = last.path.as_str();
-    let query = str::from_utf8(last.query.as_slice()).ok().ok_or("text")?;
-    let body = str::from_utf8(last.body.as_slice()).ok().ok_or("text")?;
+    let method = request.method.as_str();
+    let path = request.path.as_str();
+    let query = shown(&request.query);
+    let body = shown(&request.body);
     Ok(format!(in alloc; "{method} {path} [{query}] [{body}]")?)
+}
+
+fn last_request(alloc: Global, stream: &str) -> Result<Option<Request>, Fail> {
+    let mut source = source(alloc, stream.as_bytes(), 5, 0)?;
+    let mut sink = no_sink(alloc)?;
+    let mut buf = Buf::make(alloc)?;
+    Ok(last_of(alloc, &mut Pair::make(&mut source, &mut sink), &mut buf))
+}
+
+fn last_text(alloc: Global, stream: &str) -> Result<String, Fail> {
+    match last_request(alloc, stream)? {
+        None => Err("a request")?,
+        Some(request) => request_text(alloc, &request),
+    }
 }
 
 #[test]
@@ -160,23 +191,37 @@ fn cuts(rt: HostRuntime) -> Result<(), Fail> {
     Ok(())
 }
 
+// Into room for eight bytes, in pieces of three, where one write fails: whether each of two pieces is written, and what is then.
+fn wrote(
+    rt: &impl Abort,
+    sink: &mut MemSink,
+    source: &mut MemSource,
+    pieces: [&str; 2],
+    done: [bool; 2],
+) {
+    let mut link = Pair::make(source, sink);
+    for at in 0..2 {
+        let is_done = write_all(&mut link, pieces[at].as_bytes()).is_ok();
+        assert!(rt; is_done == done[at], "{}", pieces[at]);
+    }
+}
+
+fn eight(alloc: Global, failing: u64) -> Result<MemSink, Fail> {
+    let failing = Items::of(vec![in alloc; failing]?);
+    Ok(MemSink::make(alloc, 8, 3, failing)?)
+}
+
 #[test]
 fn writes(rt: HostRuntime) -> Result<(), Fail> {
     let alloc = rt.alloc();
-    // Into room for eight bytes, in pieces of three.
-    for (failing, first, first_ok, second, second_ok, written) in [
-        (0, "seven  ", true, "ab", false, "seven  a"),
-        (0, "", true, "eightles", true, "eightles"),
-        (2, "seven  ", false, "ab", true, "sevab"),
+    for (failing, pieces, done, written) in [
+        (0, ["seven  ", "ab"], [true, false], "seven  a"),
+        (0, ["", "eightles"], [true, true], "eightles"),
+        (2, ["seven  ", "ab"], [false, true], "sevab"),
     ] {
-        let failing = Items::of(vec![in alloc; failing]?);
-        let mut source = MemSource::make(bytes(alloc, b"")?, 1, Items::of(Vec::new(alloc)));
-        let mut sink = MemSink::make(alloc, 8, 3, failing)?;
-        let mut link = Pair::make(&mut source, &mut sink);
-        let one = write_all(&mut link, first.as_bytes()).is_ok();
-        let other = write_all(&mut link, second.as_bytes()).is_ok();
-        drop(link);
-        assert!(rt; one == first_ok && other == second_ok, "{first}{second}");
+        let mut source = source(alloc, b"", 1, 0)?;
+        let mut sink = eight(alloc, failing)?;
+        wrote(&rt, &mut sink, &mut source, pieces, done);
         assert_eq!(rt; sink.bytes(), written.as_bytes());
     }
     Ok(())

@@ -58,6 +58,7 @@ pub(crate) fn run(alloc: Global, plan: Plan) -> Result<Reply, NoMemory>
         request,
         pages: _,
         end: _,
+        number: _,
     } = plan;
     let view = pass.body();
     let shards = view.shard_refs(alloc)?;
@@ -66,7 +67,7 @@ pub(crate) fn run(alloc: Global, plan: Plan) -> Result<Reply, NoMemory>
         mapping: view.mapping(),
         shards: &shards,
     };
-    Ok(Reply::Found(answer(alloc, &view, &request)?))
+    Ok(Reply::Found(answer(alloc, &view, &request, request.from as u64)?))
 }
 
 fn reply_to(alloc: Global, turned: Turned) -> Result<Reply, NoMemory>
@@ -178,17 +179,17 @@ const VIEWS: &str = "
 0 put docs a -> created 2
 0 put docs c -> created 3
 0 publish docs 0 3 -> done
-5 open docs -> opened 1
+5 open docs 1m -> opened 1
 5 remove docs a -> deleted 4
 5 publish docs 0 4 -> done
 5 search 1 -> 2 of 3 docs b 0 docs a 1
-5 search 1 1 -> 1 of 3 docs c 2
+5 search 1 after=1 -> 1 of 3 docs c 2
 # It is live up to one minute behind its opening, and moments never fall.
-5 open docs -> too many 1
-60005 search 1 2 -> 0 of 3
+5 open docs 1m -> too many 1
+60005 search 1 after=2 -> 0 of 3
 60006 search 1 -> missing
 5 search 1 -> missing
-5 open docs -> opened 2
+5 open docs 1m -> opened 2
 5 search 2 -> 2 of 2 docs b 0 docs c 1
 ";
 
@@ -196,22 +197,22 @@ const VIEWS: &str = "
 const KEPT: &str = "
 0 put docs a -> created 1
 0 publish docs 0 1 -> done
-0 open docs -> opened 1
-0 keep 1 5m -> 1 of 1 docs a 0
-10 keep 1 1s -> 1 of 1 docs a 0
+0 open docs 1m -> opened 1
+0 search 1 keep=5m -> 1 of 1 docs a 0
+10 search 1 keep=1s -> 1 of 1 docs a 0
 10 put docs b -> created 2
 10 publish docs 0 2 -> done
 300000 search 1 -> 1 of 1 docs a 0
-300000 keep 1 1h x -> bad after
+300000 search 1 keep=1h after=x -> bad after
 300000 quiet -> done
-300000 open docs -> too many 1
+300000 open docs 1m -> too many 1
 300000 quiet end -> done
-299999 open docs -> too many 1
+299999 open docs 1m -> too many 1
 300001 quiet end -> done
 300000 search 1 -> missing
 300001 quiet -> done
 300001 search 1 -> missing
-300001 keep 1 1h -> missing
+300001 search 1 keep=1h -> missing
 300001 close 1 -> closed 0
 0 open docs 0 -> opened 2
 300001 search 2 -> 2 of 2 docs a 0 docs b 1
@@ -231,27 +232,9 @@ const KEPT: &str = "
 302003 close 3 4 5 -> closed 1
 302003 quiet -> done
 302003 create logs -> done
-302003 open logs -> opened 6
+302003 open logs 1m -> opened 6
 302003 close 6 -> closed 5
 ";
-
-#[test]
-fn contexts_kept_and_closed(rt: HostRuntime) -> Result<(), Fail> {
-    plays(&rt, rt.alloc(), KEPT)
-}
-
-#[test]
-fn histories(rt: HostRuntime) -> Result<(), Fail> {
-    let alloc = rt.alloc();
-    plays(&rt, alloc, ONE_INDEX)?;
-    plays(&rt, alloc, VIEWS)?;
-    pages_in_turn();
-    sound_states();
-    one_enumeration();
-    slices_share_out();
-    each_place_has_a_slice();
-    Ok(())
-}
 
 const SHARDS: &str = "
 0 create docs -> exists
@@ -272,25 +255,25 @@ const SHARDS: &str = "
 0 publish logs 0 1 -> done
 0 publish logs 4 2 -> done
 0 publish logs 9 2 -> done
-0 open other -> no index
-0 open logs -> opened 1
+0 open other 1m -> no index
+0 open logs 1m -> opened 1
 0 search 1 -> 2 of 2 logs a 0 logs c 12884901888 skipped 3 of 5
 60001 search 7 -> missing
-60001 open docs -> opened 2
+60001 open docs 1m -> opened 2
 60001 search 2 -> 0 of 0 skipped 1 of 1
 # A search of an index sees what was published last. Shards that have no such value are skipped.
-0 find other n 1 -> no index
-0 find logs n x -> bad query
-0 find logs n 1 -> 1 of 1 logs c skipped 4 of 5
-0 find logs n 2 -> 0 of 0 skipped 5 of 5
-0 find logs m 1 -> 0 of 0 skipped 5 of 5
+0 search other find=n/1 -> no index
+0 search logs find=n/x -> bad query
+0 search logs find=n/1 -> 1 of 1 logs c skipped 4 of 5
+0 search logs find=n/2 -> 0 of 0 skipped 5 of 5
+0 search logs find=m/1 -> 0 of 0 skipped 5 of 5
 0 publish logs 3 2 -> done
-0 find logs n 2 -> 1 of 1 logs d skipped 4 of 5
+0 search logs find=n/2 -> 1 of 1 logs d skipped 4 of 5
 0 put logs d n=1 -> updated 3
-0 find logs n 2 -> 1 of 1 logs d skipped 4 of 5
+0 search logs find=n/2 -> 1 of 1 logs d skipped 4 of 5
 0 publish logs 3 3 -> done
-0 find logs n 2 -> 0 of 0 skipped 5 of 5
-0 find logs n 1 -> 2 of 2 logs c logs d skipped 4 of 5
+0 search logs find=n/2 -> 0 of 0 skipped 5 of 5
+0 search logs find=n/1 -> 2 of 2 logs c logs d skipped 4 of 5
 ";
 
 const SORTED: &str = "
@@ -305,28 +288,18 @@ const SORTED: &str = "
 0 publish logs 2 1 -> done
 0 publish logs 3 2 -> done
 # Five documents: f and d are equal, and c has no number. The first hit is left out.
-0 order logs n asc -> 2 of 5 logs f 2 logs d 2 in 2 steps skipped 1 of 5
-0 order logs n desc -> 2 of 5 logs f 2 logs d 2 in 2 steps skipped 1 of 5
+0 search logs sort=n/asc -> 2 of 5 logs f 2 logs d 2 in 2 steps skipped 1 of 5
+0 search logs sort=n/desc -> 2 of 5 logs f 2 logs d 2 in 2 steps skipped 1 of 5
 # Behind a value it is left out too, and all are counted.
-0 order logs n asc 1 -> 2 of 5 logs d 2 logs a 3 in 2 steps skipped 1 of 5
-0 order logs n desc 3 -> 2 of 5 logs d 2 logs b 1 in 2 steps skipped 1 of 5
-0 order logs n asc 3 -> 0 of 5 in 2 steps skipped 1 of 5
-0 order logs m asc -> bad sort
-0 order logs n asc x -> bad after
-0 order logs m asc x -> bad sort
-0 open logs -> opened 1
+0 search logs sort=n/asc after=1 -> 2 of 5 logs d 2 logs a 3 in 2 steps skipped 1 of 5
+0 search logs sort=n/desc after=3 -> 2 of 5 logs d 2 logs b 1 in 2 steps skipped 1 of 5
+0 search logs sort=n/asc after=3 -> 0 of 5 in 2 steps skipped 1 of 5
+0 search logs sort=m/asc -> bad sort
+0 search logs sort=n/asc after=x -> bad after
+0 search logs sort=m/asc after=x -> bad sort
+0 open logs 1m -> opened 1
 0 search 1 -> 2 of 5 logs a 0 logs f 4294967296 skipped 1 of 5
 ";
-
-#[test]
-fn indexes_and_shards(rt: HostRuntime) -> Result<(), Fail> {
-    plays(&rt, rt.alloc(), SHARDS)
-}
-
-#[test]
-fn searches_in_order(rt: HostRuntime) -> Result<(), Fail> {
-    plays(&rt, rt.alloc(), SORTED)
-}
 
 // Slices of an index of one shard share its places by their ranks, those of five shards whole shards, or by both.
 const SLICED: &str = "
@@ -334,10 +307,10 @@ const SLICED: &str = "
 0 put docs a -> created 2
 0 put docs c -> created 3
 0 publish docs 0 3 -> done
-0 open docs -> opened 1
-0 slice 1 0 2 -> 2 of 2 docs b 0 docs c 2
-0 slice 1 1 2 -> 1 of 1 docs a 1
-0 slice 1 3 1024 -> 0 of 0
+0 open docs 1m -> opened 1
+0 search 1 slice=0/2 -> 2 of 2 docs b 0 docs c 2
+0 search 1 slice=1/2 -> 1 of 1 docs a 1
+0 search 1 slice=3/1024 -> 0 of 0
 60001 create logs -> done
 60001 put logs a n=1 -> created 1
 60001 put logs b n=1 -> created 1
@@ -348,18 +321,30 @@ const SLICED: &str = "
 60001 publish logs 1 1 -> done
 60001 publish logs 2 1 -> done
 60001 publish logs 3 2 -> done
-60001 open logs -> opened 2
+60001 open logs 1m -> opened 2
 # Shards that the slice doesn't cover are skipped, and the last one, which has no documents.
-60001 slice 2 0 2 -> 2 of 2 logs a 0 logs b 8589934592 skipped 3 of 5
-60001 slice 2 1 2 -> 2 of 3 logs f 4294967296 logs c 12884901888 skipped 3 of 5
-60001 slice 2 3 5 -> 2 of 2 logs c 12884901888 logs d 12884901889 skipped 4 of 5
-60001 slice 2 4 5 -> 0 of 0 skipped 5 of 5
-60001 slice 2 3 9 -> 1 of 1 logs c 12884901888 skipped 4 of 5
-60001 slice 2 8 9 -> 1 of 1 logs d 12884901889 skipped 4 of 5
-60001 slice 2 5 9 -> 0 of 0 skipped 4 of 5
+60001 search 2 slice=0/2 -> 2 of 2 logs a 0 logs b 8589934592 skipped 3 of 5
+60001 search 2 slice=1/2 -> 2 of 3 logs f 4294967296 logs c 12884901888 skipped 3 of 5
+60001 search 2 slice=3/5 -> 2 of 2 logs c 12884901888 logs d 12884901889 skipped 4 of 5
+60001 search 2 slice=4/5 -> 0 of 0 skipped 5 of 5
+60001 search 2 slice=3/9 -> 1 of 1 logs c 12884901888 skipped 4 of 5
+60001 search 2 slice=8/9 -> 1 of 1 logs d 12884901889 skipped 4 of 5
+60001 search 2 slice=5/9 -> 0 of 0 skipped 4 of 5
 ";
 
 #[test]
-fn slices(rt: HostRuntime) -> Result<(), Fail> {
-    plays(&rt, rt.alloc(), SLICED)
+fn histories(rt: HostRuntime) -> Result<(), Fail> {
+    for history in [ONE_INDEX, VIEWS, KEPT, SHARDS, SORTED, SLICED] {
+        plays(&rt, rt.alloc(), history)?;
+    }
+    Ok(())
+}
+
+#[test]
+fn laws() {
+    pages_in_turn();
+    sound_states();
+    one_enumeration();
+    slices_share_out();
+    each_place_has_a_slice();
 }

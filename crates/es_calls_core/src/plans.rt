@@ -15,8 +15,8 @@ const BEFORE: &str = "0 create logs -> done
 0 put logs c n=1 -> created 1
 0 put logs d n=1 -> created 2
 0 publish logs 3 2 -> done
-0 open logs -> opened 1
-0 open logs -> opened 2";
+0 open logs 1m -> opened 1
+0 open logs 1m -> opened 2";
 
 // Both documents change, one point in time is closed, and the other is let go.
 const BEHIND: &str = "0 remove logs c -> deleted 3
@@ -25,8 +25,8 @@ const BEHIND: &str = "0 remove logs c -> deleted 3
 0 close 1 -> closed 5
 60001 quiet -> done
 60001 search 2 -> missing
-60001 find logs n 1 -> 0 of 0 skipped 5 of 5
-60001 find logs n 2 -> 1 of 1 logs d skipped 4 of 5";
+60001 search logs find=n/1 -> 0 of 0 skipped 5 of 5
+60001 search logs find=n/2 -> 1 of 1 logs d skipped 4 of 5";
 
 fn goes_on(rt: &impl Abort, alloc: Global, core: &mut Core, history: &str) -> Result<(), Fail> {
     for line in history.lines() {
@@ -54,31 +54,38 @@ fn answers(rt: &impl Abort, alloc: Global, plan: Plan, want: &str) -> Result<(),
     Ok(())
 }
 
-#[test]
-fn plans_answer_as_at_their_turns(rt: HostRuntime) -> Result<(), Fail> {
-    let alloc = rt.alloc();
+// A search that is planned before all that is answered behind it, when the core is gone.
+fn outlives(rt: &impl Abort, alloc: Global, asked: &str, want: &str) -> Result<(), Fail> {
     let limits = Limits {
         pits: 2,
         entries: 100,
     };
     let mut core = Core::make(alloc, limits)?;
-    goes_on(&rt, alloc, &mut core, BEFORE)?;
-    let closed = plan(alloc, &mut core, "0 search 1")?;
-    let reaped = plan(alloc, &mut core, "0 search 2 12884901888")?;
-    let index = plan(alloc, &mut core, "0 find logs n 1")?;
-    goes_on(&rt, alloc, &mut core, BEHIND)?;
+    goes_on(rt, alloc, &mut core, BEFORE)?;
+    let plan = plan(alloc, &mut core, asked)?;
+    goes_on(rt, alloc, &mut core, BEHIND)?;
     drop(core);
-    answers(
-        &rt,
-        alloc,
-        closed,
-        "2 of 2 logs c 12884901888 logs d 12884901889 skipped 4 of 5",
-    )?;
-    answers(
-        &rt,
-        alloc,
-        reaped,
-        "1 of 2 logs d 12884901889 skipped 4 of 5",
-    )?;
-    answers(&rt, alloc, index, "2 of 2 logs c logs d skipped 4 of 5")
+    answers(rt, alloc, plan, want)
+}
+
+// Of a point in time that is closed, of one that is let go, and of an index.
+#[test]
+fn plans_answer_as_at_their_turns(rt: HostRuntime) -> Result<(), Fail> {
+    for (asked, want) in [
+        (
+            "0 search 1",
+            "2 of 2 logs c 12884901888 logs d 12884901889 skipped 4 of 5",
+        ),
+        (
+            "0 search 2 after=12884901888",
+            "1 of 2 logs d 12884901889 skipped 4 of 5",
+        ),
+        (
+            "0 search logs find=n/1",
+            "2 of 2 logs c logs d skipped 4 of 5",
+        ),
+    ] {
+        outlives(&rt, rt.alloc(), asked, want)?;
+    }
+    Ok(())
 }

@@ -1,13 +1,13 @@
 //! The calls that `list_machine` lends to the core and to what runs its plans.
 ghost use Rattle.std.specs.Prelude.{◌≤◌, vec_len};
 
-use crate::events::{by_place, doc_id};
-use crate::fields::mapping_of_n;
-use crate::replies::page_text;
-use crate::values::braces;
-use es_sort::Keys;
-use es_types::{Copied, Items, NoMemory, Op, Row, Value};
-use list_machine::{Answer, Reply, ViewRef, answer, apply_ops, docs, enter, lasts_of, refused};
+use crate::events::request;
+use crate::parts::{braces, doc_id, mapping_of_n};
+use crate::replies::said;
+use es_types::{Copied, Items, Mapping, NoMemory, Op, Row};
+use list_machine::{
+    Answer, Reply, SearchRequest, ViewRef, answer, apply_ops, docs, enter, lasts_of, refused,
+};
 use std::alloc::Global;
 use std::collections::BTreeSet;
 use std::test::Fail;
@@ -17,6 +17,24 @@ fn put_op(alloc: Global, id: &str) -> Result<Op, Fail> {
     let source = braces(alloc)?;
     let values = Items::of(Vec::new(alloc));
     Ok(Op::Put { id, source, values })
+}
+
+// `+b` puts, and `a` removes.
+fn op(alloc: Global, word: &str) -> Result<Op, Fail> {
+    match word.strip_prefix("+") {
+        Some(id) => put_op(alloc, id),
+        None => Ok(Op::Remove {
+            id: doc_id(alloc, word)?,
+        }),
+    }
+}
+
+fn ops(alloc: Global, line: &str) -> Result<Vec<Op>, Fail> {
+    let mut ops = Vec::new(alloc);
+    for word in line.split(' ') {
+        ops.push(op(alloc, word)?)?;
+    }
+    Ok(ops)
 }
 
 // What operations make of no rows. The first has the number 7.
@@ -36,25 +54,17 @@ fn empty_page(alloc: Global) -> Result<Answer, Fail> {
         mapping: &mapping_of_n(alloc)?,
         shards: &[],
     };
-    let request = by_place(alloc, None, None);
+    let request = request(alloc, "", true)?;
     let _ = request.copy(alloc)?;
-    Ok(answer(alloc, &view, &request)?)
+    Ok(answer(alloc, &view, &request, request.from as u64)?)
 }
 
-// Whether a search of an index with a field `n` is refused where it goes on behind so many places.
-fn is_refused(alloc: Global, places: usize) -> Result<bool, Fail> {
-    let mut values = Vec::new(alloc);
-    for _place in 0..places {
-        values.push(Value::Long(1))?;
-    }
-    let after = Keys {
-        values: Items::of(values),
-    };
-    let request = by_place(alloc, Some(after), None);
-    match refused(&mapping_of_n(alloc)?, &request) {
-        Some(Reply::BadAfter) => Ok(true),
-        Some(_) => Err("another refusal")?,
-        None => Ok(false),
+// How a search of an index is refused.
+fn refusal(mapping: &Mapping, request: &SearchRequest) -> &'static str {
+    match refused(mapping, request) {
+        None => "not refused",
+        Some(Reply::BadAfter) => "bad after",
+        Some(_) => "another",
     }
 }
 
@@ -71,13 +81,9 @@ fn an_id_is_new_once(rt: HostRuntime) -> Result<(), Fail> {
 #[test]
 fn operations(rt: HostRuntime) -> Result<(), Fail> {
     let alloc = rt.alloc();
-    let first = put_op(alloc, "b")?;
-    let other = put_op(alloc, "a")?;
-    let again = put_op(alloc, "b")?;
-    let remove = Op::Remove {
-        id: doc_id(alloc, "a")?,
-    };
-    let rows = applied(alloc, vec![in alloc; first, other, again, remove]?)?;
+    let ops = ops(alloc, "+b +a +b a")?;
+    assert!(rt; ops.len() <= 4);
+    let rows = applied(alloc, ops)?;
     for row in rows.as_slice() {
         assert_eq!(rt; row.seq, 9);
     }
@@ -88,10 +94,18 @@ fn operations(rt: HostRuntime) -> Result<(), Fail> {
 #[test]
 fn a_page_of_nothing(rt: HostRuntime) -> Result<(), Fail> {
     let alloc = rt.alloc();
-    let page = empty_page(alloc)?;
-    let page = page_text(alloc, &page)?;
+    let page = said(alloc, Reply::Found(empty_page(alloc)?))?;
     assert_eq!(rt; page.as_str(), "0 of 0");
-    assert!(rt; !is_refused(alloc, 1)?);
-    assert!(rt; is_refused(alloc, 2)?);
+    Ok(())
+}
+
+// Of the place alone, one value to go on behind fits.
+#[test]
+fn a_refused_search(rt: HostRuntime) -> Result<(), Fail> {
+    let mapping = mapping_of_n(rt.alloc())?;
+    for (line, want) in [("after=1", "not refused"), ("after=1,1", "bad after")] {
+        let request = request(rt.alloc(), line, true)?;
+        assert_eq!(rt; refusal(&mapping, &request), want);
+    }
     Ok(())
 }

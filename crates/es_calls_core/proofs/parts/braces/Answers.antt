@@ -7,7 +7,7 @@ use Rattle.json.specs.Lex.{lex, punctuate}
 use Rattle.serde_json.specs.Data.{object, no_members}
 use Rattle.serde_json.specs.Read.{read}
 use Rattle.list_machine.specs.Objects.{IsObject}
-use Rattle.es_calls.proofs.values.braces.Goals as goal
+use Rattle.es_calls_core.proofs.parts.braces.Goals as goal
 
 ascii : (i : ℕ) → slice_index (123 ∷ 125 ∷ []) i < 128
 ascii zero = omega arith
