@@ -64,6 +64,19 @@ def openings(documents, count):
         yield from request(b"POST /t/_pit?keep_alive=1m")
 
 
+def idle(documents, searches, refreshes):
+    """So many documents in one shard, which are refreshed once. Then so many searches and refreshes in turn, a refresh first."""
+    yield from request(b"PUT /t", b'{"mappings":{"properties":{"n":{"type":"long"}}}}')
+    if documents:
+        lines = b"".join(b'{"index":{"_id":"d%d"}}\n{"n":%d}\n' % (number, number) for number in range(documents))
+        yield from request(b"POST /t/_bulk?refresh", lines)
+    for number in range(max(searches, refreshes)):
+        if number < refreshes:
+            yield from request(b"POST /t/_refresh")
+        if number < searches:
+            yield from request(b"POST /t/_search", b'{"size":10}')
+
+
 def pit_id(number):
     return base64.urlsafe_b64encode(b"P" + number.to_bytes(8, "big"))
 
@@ -260,6 +273,10 @@ def main():
         ("20,000 documents, no page", sorted_documents(20000, 0, 1000)),
         ("20,000 documents, 20 pages of 1,000 in order", sorted_documents(20000, 20, 1000)),
         ("20,000 documents, 2 pages of 10,000 in order", sorted_documents(20000, 2, 10000)),
+        ("20,000 documents, idle", idle(20000, 0, 0)),
+        ("20,000 documents, 100 searches", idle(20000, 100, 0)),
+        ("no documents, 100 refreshes", idle(0, 0, 100)),
+        ("20,000 documents, 100 refreshes with a search after each", idle(20000, 100, 100)),
         ("1,000 documents, 1 opening", openings(1000, 1)),
         ("1,000 documents, 400 openings", openings(1000, 400)),
         ("20,000 documents, 1 opening", openings(20000, 1)),
@@ -289,6 +306,11 @@ def main():
     for pages, size in ((20, "1,000"), (2, "10,000")):
         seconds = found["20,000 documents, %d pages of %s in order" % (pages, size)][1] - found["20,000 documents, no page"][1]
         print("a page of %s of 20,000 documents in order: %.1f ms" % (size, seconds / pages * 1000))
+    base = found["20,000 documents, idle"][1]
+    apart = found["20,000 documents, 100 searches"][1] - base + found["no documents, 100 refreshes"][1]
+    both = found["20,000 documents, 100 refreshes with a search after each"][1] - base
+    print("100 refreshes of 20,000 idle documents with a search after each: %.1f ms (at most %.1f, a fifth more than apart)" % (both * 1000, apart * 1200))
+    failed = failed or both > 1.2 * apart
     for documents in ("1,000", "20,000"):
         one, many = found["%s documents, 1 opening" % documents], found["%s documents, 400 openings" % documents]
         memory = many[2] - one[2]
