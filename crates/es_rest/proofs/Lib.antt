@@ -14,3 +14,4 @@ pub mod Queries
 pub mod Asks
 pub mod Limits
 pub mod Numerals
+pub mod Shows

@@ -1,5 +1,5 @@
 -- What a request asks for, or the first class of refusals that it meets.
-use Rattle.std.specs.Prelude.{◌≡◌, ℕ, ◌&&◌, ◌||◌, ◌==◌, Bool, true, false, not, nat_le, bytes_eq, if◌then◌else◌, List, [], ◌∷◌, length, Option, Some, None, Result, Ok, Err, codes}
+use Rattle.std.specs.Prelude.{◌≡◌, ℕ, ◌&&◌, ◌||◌, ◌==◌, Bool, true, false, not, nat_le, bytes_eq, if◌then◌else◌, List, [], ◌∷◌, length, Option, Some, None, Result, Ok, Err, codes, IsTrue}
 use Rattle.std.specs.List.{list_all}
 use Rattle.es_types.specs.declared.limits.TheConstants.{LEAST_BATCH, MOST_BATCH, USUAL_BATCH}
 use Rattle.es_types.specs.declared.doc.Doc.{Doc}
@@ -19,6 +19,7 @@ use Rattle.doc_json.specs.Documents.{doc_of}
 use Rattle.doc_json.specs.Indexes.{index_of}
 use Rattle.doc_json.specs.Json.{data_of, is_form, is_white}
 use Rattle.list_machine.specs.Objects.{IsObject}
+use Rattle.list_machine.specs.Pages.{shows_place}
 use Rattle.list_machine.specs.Run.{IsBounded, IsWithinLimits}
 use Rattle.list_machine.specs.declared.event.Event.TheVariants as event
 use Rattle.list_machine.specs.declared.event.Target.TheVariants as target
@@ -289,3 +290,8 @@ AsksSound (ask.Search target request sent) = IsBounded (event.Search target requ
 AsksSound (ask.Put index id doc refresh) = IsObject doc.source
 AsksSound (ask.Bulk index body refresh) = (items : List BulkItem) × (items_of index body ≡ Ok items)
 AsksSound other = Unit {0}
+
+-- a request that searches a point in time asks for the place of each hit
+abbrev pub PitSearchesShowPlaces : Type 0
+PitSearchesShowPlaces = (request : Request) (number : ℕ) (keep : Option ℕ) (search : SearchRequest) (sent : Option ContextId)
+    → asked_of request ≡ Ok (ask.Search (target.Pit number keep) search sent) → IsTrue (shows_place search.sort)

@@ -4,12 +4,14 @@ ghost use Rattle.es_outside.specs.Told.{Rose};
 ghost use Rattle.http_wire.specs.Stream.{Wrote, WroteSome};
 ghost use Rattle.es_rest.specs.Headline.{Headline};
 ghost use Rattle.es_rest.specs.Paths.{all_routes};
+ghost use Rattle.es_rest.specs.Route.{PitSearchesShowPlaces};
 ghost use Rattle.es_rest.specs.Talk.{Tended};
 ghost use Rattle.es_rest.specs.Whole.{ServesWhole};
 ghost use Rattle.reply_json.specs.Replies.{text};
 ghost use Rattle.es_rest.specs.Exchanges.{Answered, ClockAnswers, Closed, Exchanged, LastGoesOn, WroteBy, words_text};
 
 use crate::converse::respond;
+use crate::law::pit_searches_show_places;
 use crate::moment::told_moment;
 use crate::paths::{Place, routes};
 use es_outside::{Clock, Link};
@@ -224,6 +226,8 @@ pub fn serve_connection<V: Service, L: Link, C: Clock>(
     ensures complete { ServesWhole (V.limits service.old) (V.seat service.old) (V.front service.old) (V.front service.new)
         (L.left link.old) (L.left link.new) (L.written link.old) (L.written link.new) (C.last clock.old) (C.greatest clock.old) (C.greatest clock.new)
         (L.read_faults link.old) (L.read_faults link.new) (L.write_faults link.old) (L.write_faults link.new) result }
+    // Each request that searches a point in time asks for the place of each hit.
+    ensures shows { PitSearchesShowPlaces }
     // A fault is answered only where the count rose, and wherever it rose.
     ensures read_fault { result ≡ ConnEnd.ReadFault → Rose (L.read_faults link.old) (L.read_faults link.new) }
     ensures write_fault { result ≡ ConnEnd.WriteFault → Rose (L.write_faults link.old) (L.write_faults link.new) }
@@ -233,5 +237,6 @@ pub fn serve_connection<V: Service, L: Link, C: Clock>(
     ensures limits { V.limits service.new ≡ V.limits service.old }
     ensures held { L.held link.new ≡ L.held link.old }
 {
+    pit_searches_show_places();
     serve_requests(alloc, service, link, clock)
 }

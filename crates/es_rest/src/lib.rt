@@ -7,6 +7,7 @@ mod bulk;
 mod connection;
 mod converse;
 mod items;
+mod law;
 mod moment;
 mod params;
 mod paths;
@@ -16,3 +17,4 @@ mod search;
 
 pub use ask::{Ask, route};
 pub use connection::{ConnEnd, serve_connection};
+pub use law::pit_searches_show_places;

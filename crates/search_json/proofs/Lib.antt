@@ -1,3 +1,4 @@
 pub mod Depths
 pub mod Lists
 pub mod Only
+pub mod Shows

@@ -2,7 +2,7 @@
 -- a limit that is broken, then a text that is no id. The members are those of Elasticsearch's reference, "Search API"
 -- and "Paginate search results": `query`, `size`, `from`, `sort`, `pit`, `search_after`, `slice`
 -- and `track_total_hits`.
-use Rattle.std.specs.Prelude.{ℕ, ◌+◌, ◌&&◌, ◌||◌, not, nat_lt, Bool, true, if◌then◌else◌, List, [], ◌∷◌, map, is_some, Option, Some, None, option_map, option_and_then, Result, Ok, Err, codes}
+use Rattle.std.specs.Prelude.{ℕ, ◌+◌, ◌&&◌, ◌||◌, not, nat_lt, Bool, true, if◌then◌else◌, List, [], ◌∷◌, map, is_some, Option, Some, None, option_map, option_and_then, Result, Ok, Err, IfSome, IsTrue, codes}
 use Rattle.std.specs.Option.{option_map_or}
 use Rattle.es_types.specs.declared.limits.TheConstants.{WINDOW}
 use Rattle.serde_json.specs.Data.{Data}
@@ -13,6 +13,7 @@ use Rattle.ctx_ids.specs.declared.id.ContextId.{ContextId}
 use Rattle.es_query.specs.declared.query.Query.{Query, All}
 use Rattle.es_sort.specs.declared.sort.Keys.{Keys}
 use Rattle.slice_rule.specs.declared.slice.Slice.{Slice}
+use Rattle.list_machine.specs.Pages.{shows_place}
 use Rattle.list_machine.specs.declared.page.request.SearchRequest.{SearchRequest}
 use Rattle.doc_json.specs.declared.fault.BodyFault.{BodyFault}
 use Rattle.doc_json.specs.declared.fault.BodyFault.TheVariants.{Limit, Shape}
@@ -131,3 +132,7 @@ judged has_index batch value =
 -- what a body asks for where the path names an index or doesn't, and so many shards make a batch. An empty body counts as `{}`.
 unfoldable pub search_of : Bool → ℕ → List ℕ → Result SearchBody BodyFault
 search_of has_index batch body = json_then (data_of (filled body)) (λ value. judged has_index batch value)
+
+-- a search of a point in time shows the place of each hit
+abbrev pub ShowsInPit : SearchBody → Type 0
+ShowsInPit body = IfSome body.pit (λ pit. IsTrue (shows_place body.request.sort))

@@ -2,6 +2,7 @@
 #![tactic(auto)]
 
 mod after;
+mod law;
 mod names;
 mod pit;
 mod query;
@@ -10,5 +11,6 @@ mod slice;
 mod sort;
 mod value;
 
+pub use law::pit_bodies_show_places;
 pub use pit::{context_keep, read_pit_close};
 pub use search::{PitRef, SearchBody, read_search};
