@@ -1,5 +1,5 @@
 -- A body that names a point in time asks for the place of each hit.
-use Rattle.std.proofs.Common.{ℕ, Bool, true, false, List, Option, Some, None, Result, Ok, Err}
+use Rattle.std.proofs.Common.{refl, ℕ, Bool, true, false, List, Option, Some, None, Result, Ok, Err}
 use Rattle.std.specs.Prelude.{if◌then◌else◌, is_some, IfOk, IsTrue}
 use Rattle.serde_json.specs.Data.{Data}
 use Rattle.es_types.specs.declared.limit.LimitName.{LimitName}
@@ -17,7 +17,7 @@ use Rattle.search_json.specs.declared.search.SearchBody.{SearchBody}
 use Rattle.search_json.specs.declared.search.Span.{Span}
 use Rattle.search_json.specs.declared.sort.NamedKey.{NamedKey}
 use Rattle.search_json.specs.Pits.{id_told, pit_of}
-use Rattle.search_json.specs.Searches.{ShowsInPit, asked, asked_of, body_with, broken, has_form, judged, judged_limits, limited, request_of, search_of, span_in}
+use Rattle.search_json.specs.Searches.{ShowsInPit, asked, asked_of, body_with, broken, has_form, judged, judged_limits, request_of, search_of, span_in}
 use Rattle.search_json.specs.Sorts.{sort_of}
 
 -- whatever has its form, or hasn't
@@ -35,7 +35,7 @@ limits_show : (told : Option LimitName) (batch : ℕ) (span : Span) (keys : List
     → IfOk (judged_limits told (request_of (is_some named) batch span keys query) named) ShowsInPit
 limits_show (Some name) batch span keys query named = tt
 limits_show None batch span keys query None = tt
-limits_show None batch span keys query (Some named) = named_shows (request_of true batch span keys query) named.keep (id_told named.id) tt
+limits_show None batch span keys query (Some named) = named_shows (request_of true batch span keys query) named.keep (id_told named.id) refl
 
 -- its parts
 asked_shows : (has_index : Bool) (named : Option Named) (batch : ℕ) (value : Data) → IfOk (asked has_index named batch value) ShowsInPit
