@@ -11,7 +11,7 @@ use Rattle.list_machine.specs.State.{State}
 use Rattle.list_machine.specs.Step.{at_moment, happen}
 use Rattle.list_machine.specs.Run.{History, state_of}
 use Rattle.list_machine.specs.Serving.{Asked, applied, asked}
-use Rattle.es_rest.specs.declared.ask.Ask.{Ask}
+use Rattle.es_route.specs.declared.ask.Ask.{Ask}
 use Rattle.reply_json.specs.declared.fault.RestFault.{RestFault}
 use Rattle.reply_json.specs.declared.fault.RestFault.TheVariants as fault
 use Rattle.reply_json.specs.declared.response.Response.{Response}

@@ -8,9 +8,10 @@ use Rattle.reply_json.specs.declared.fault.RestFault.{RestFault}
 use Rattle.reply_json.specs.declared.response.BulkLine.{BulkLine}
 use Rattle.reply_json.specs.declared.response.Response.{Response}
 use Rattle.reply_json.specs.declared.response.Response.TheVariants as response
-use Rattle.es_rest.specs.declared.ask.Ask.TheVariants.{Bulk}
+use Rattle.es_route.specs.declared.ask.Ask.TheVariants.{Bulk}
 use Rattle.es_rest.specs.declared.bulk.Written.{Written}
-use Rattle.es_rest.specs.Items.{changed_by, items_in, items_of, lines_of, writes_of}
+use Rattle.es_route.specs.Items.{items_in, items_of}
+use Rattle.es_rest.specs.Items.{changed_by, lines_of, writes_of}
 use Rattle.es_rest.specs.Led.{BulkCut, ItemsDone, Led}
 use Rattle.es_rest.specs.Scripts.{CutShort, RanScript, each, refreshes}
 use Rattle.es_rest.specs.Talk.{Conversation, Interrupted, events_of, or_fault, refreshed_of}

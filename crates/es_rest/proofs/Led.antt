@@ -14,8 +14,8 @@ use Rattle.reply_json.specs.declared.response.Response.{Response}
 use Rattle.reply_json.specs.declared.response.Response.TheVariants as response
 use Rattle.reply_json.specs.declared.response.RouteName.{RouteName}
 use Rattle.reply_json.specs.declared.response.RouteName.TheVariants as route
-use Rattle.es_rest.specs.declared.ask.Ask.{Ask}
-use Rattle.es_rest.specs.declared.ask.Ask.TheVariants.{Refresh}
+use Rattle.es_route.specs.declared.ask.Ask.{Ask}
+use Rattle.es_route.specs.declared.ask.Ask.TheVariants.{Refresh}
 use Rattle.es_rest.specs.Led.{EndedBy, IsLabel, Led, WasRefreshed}
 use Rattle.es_rest.specs.Scripts.{CutShort, Part, RanScript, Script, Strayed, each, is_refused, refresh, refreshes, refusal, refused}
 use Rattle.es_rest.specs.Talk.{Conversation, Interrupted, answer_of, events_of, or_fault, refreshed_of, response_of, script_of, seal_answer, settled}

@@ -3,15 +3,8 @@ pub mod Refreshes
 pub mod Bulks
 pub mod Led
 pub mod BulkTalks
-pub mod Parts
 pub mod Talks
 pub mod Exchanges
 pub mod Clocks
 pub mod Progress
 pub mod Whole
-pub mod Objects
-pub mod Queries
-pub mod Asks
-pub mod Limits
-pub mod Numerals
-pub mod Shows

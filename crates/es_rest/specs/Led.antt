@@ -12,11 +12,12 @@ use Rattle.reply_json.specs.declared.fault.RestFault.{RestFault}
 use Rattle.reply_json.specs.declared.response.BulkOutcome.TheVariants as outcome
 use Rattle.reply_json.specs.declared.response.Response.{Response}
 use Rattle.reply_json.specs.declared.response.RouteName.{RouteName}
-use Rattle.es_rest.specs.declared.ask.Ask.{Ask}
+use Rattle.es_route.specs.declared.ask.Ask.{Ask}
 use Rattle.es_rest.specs.declared.bulk.Written.{Written}
 use Rattle.es_rest.specs.declared.refresh.Refreshed.{Refreshed}
 use Rattle.es_rest.specs.declared.refresh.Refreshed.TheVariants.{All, Ended}
-use Rattle.es_rest.specs.Items.{changed_by, line_of, lines_of, outcome_of, with_index, write_of, writes_of}
+use Rattle.es_route.specs.Items.{write_of}
+use Rattle.es_rest.specs.Items.{changed_by, line_of, lines_of, outcome_of, with_index, writes_of}
 use Rattle.es_rest.specs.Scripts.{CutShort, Part, Script, Stopped, Talks, Went, each, is_refused, publishes, refresh, refusal}
 use Rattle.es_rest.specs.Talk.{answer_of, after_each, events_of, refreshed_of, settled}
 

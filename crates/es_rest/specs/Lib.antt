@@ -1,7 +1,5 @@
-pub mod Paths
 pub mod Scripts
 pub mod Items
-pub mod Route
 pub mod Talk
 pub mod Led
 pub mod Moments

@@ -22,10 +22,11 @@ use Rattle.reply_json.specs.declared.response.Response.TheVariants.{Fault}
 use Rattle.reply_json.specs.declared.response.RouteName.{RouteName}
 use Rattle.reply_json.specs.declared.response.RouteName.TheVariants as route
 use Rattle.reply_json.specs.Documents.{closed_status, wrote_status}
-use Rattle.es_rest.specs.declared.ask.Ask.{Ask}
-use Rattle.es_rest.specs.declared.ask.Ask.TheVariants.{Create, Put, Remove, Bulk, Refresh, OpenPit, ClosePit, Search}
-use Rattle.es_rest.specs.Items.{changed_by, items_in, items_of, lines_of, writes_of}
-use Rattle.es_rest.specs.Route.{asked_of}
+use Rattle.es_route.specs.declared.ask.Ask.{Ask}
+use Rattle.es_route.specs.declared.ask.Ask.TheVariants.{Create, Put, Remove, Bulk, Refresh, OpenPit, ClosePit, Search}
+use Rattle.es_route.specs.Items.{items_in, items_of}
+use Rattle.es_rest.specs.Items.{changed_by, lines_of, writes_of}
+use Rattle.es_route.specs.Route.{asked_of}
 use Rattle.es_rest.specs.Scripts.{CutShort, Part, Script, Talks, each, is_refused, refreshes, refusal, refused}
 
 -- ---- what is asked

@@ -1,14 +1,16 @@
 ghost use Rattle.std.specs.Prelude.{◌≡◌, ◌++◌, [], ◌∷◌, List, Ok, OnOk, IsTrue, MatchResult, if◌then◌else◌, option_map};
 ghost use Rattle.es_types.specs.Name.{is_index_name};
 ghost use Rattle.doc_json.specs.declared.bulk.BulkItem.{BulkItem};
-ghost use Rattle.es_rest.specs.declared.ask.Ask.TheVariants as asks;
-ghost use Rattle.es_rest.specs.Items.{items_of, line_of, outcome_of, with_index, with_name};
+ghost use Rattle.es_route.specs.declared.ask.Ask.TheVariants as asks;
+ghost use Rattle.es_route.specs.Items.{items_of};
+ghost use Rattle.es_rest.specs.Items.{line_of, outcome_of, with_index, with_name};
 ghost use Rattle.es_rest.specs.Led.{BulkCut, ItemCut, ItemDone, ItemsDone};
 ghost use Rattle.es_rest.specs.Talk.{Conversation, Interrupted};
 
-use crate::items::{line_of, outcome_of, write_of};
+use crate::items::{line_of, outcome_of};
 use crate::refresh::{is_refused, refresh_all};
 use doc_json::{BulkItem, next_bulk};
+use es_route::write_of;
 use es_types::{Bytes, Copied, Fail, IndexName, Items, Moment, NoMemory, Text};
 use list_machine::{Reply, Service};
 use reply_json::{BulkLine, BulkOutcome, Response, RestFault};

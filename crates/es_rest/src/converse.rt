@@ -2,19 +2,18 @@ ghost use Rattle.std.specs.Prelude.{◌≡◌, [], ◌∷◌, IfOk, MatchResult,
 ghost use Rattle.list_machine.specs.declared.event.Event.TheVariants as events;
 ghost use Rattle.list_machine.specs.declared.event.Which.TheVariants as which;
 ghost use Rattle.list_machine.specs.Serving.{IsAskable};
-ghost use Rattle.es_rest.specs.declared.ask.Ask.{Ask};
-ghost use Rattle.es_rest.specs.declared.ask.Ask.TheVariants as asks;
+ghost use Rattle.es_route.specs.declared.ask.Ask.{Ask};
+ghost use Rattle.es_route.specs.declared.ask.Ask.TheVariants as asks;
 ghost use Rattle.es_rest.specs.Led.{IsLabel};
-ghost use Rattle.es_rest.specs.Paths.{all_routes};
-ghost use Rattle.es_rest.specs.Route.{AsksSound};
+ghost use Rattle.es_route.specs.Paths.{all_routes};
+ghost use Rattle.es_route.specs.Route.{AsksSound};
 ghost use Rattle.es_rest.specs.Talk.{Conversation, Interrupted, Responds, search_name, search_route, sent_text, settled, status_of};
 
-use crate::ask::{Ask, routed};
 use crate::bulk::bulk;
-use crate::paths::Place;
 use crate::refresh::{Refreshed, refresh_all, refresh_index, refusal};
 use ctx_ids::ContextId;
 use doc_json::IndexSpec;
+use es_route::{Ask, Place, routed};
 use es_types::{Copied, DocId, IndexName, Items, KeepAlive, Moment, NoMemory, Text};
 use http_wire::Request;
 use list_machine::{Change, Event, Reply, SearchRequest, Service, Target, Which};

@@ -4,7 +4,7 @@ use Rattle.std.proofs.lemmas.Result.{err_from_is_err_and}
 use Rattle.list_machine.specs.declared.event.Limits.{Limits}
 use Rattle.reply_json.specs.declared.fault.RestFault.{RestFault}
 use Rattle.reply_json.specs.declared.response.Response.TheVariants as response
-use Rattle.es_rest.specs.Items.{items_of}
+use Rattle.es_route.specs.Items.{items_of}
 use Rattle.es_rest.specs.Scripts.{CutShort, RanScript, refreshes}
 use Rattle.es_rest.proofs.BulkTalks.{bulk_cut, bulk_done, bulk_strayed}
 use Rattle.es_rest.proofs.Led.{by_names}

@@ -1,5 +1,6 @@
 -- The Write of an item, and its line.
-use Rattle.es_rest.proofs.Bulks.{good_index, item_asked}
+use Rattle.es_route.proofs.Walks.{good_index}
+use Rattle.es_rest.proofs.Bulks.{item_asked}
 use Rattle.es_rest.proofs.bulk.write_item.Goals as goal
 
 pub ask-requires : goal.ask-requires

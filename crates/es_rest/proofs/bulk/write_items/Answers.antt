@@ -3,9 +3,10 @@ use Rattle.std.proofs.Common.{refl, ap, subst, ◌∙◌, ℕ, List, ◌∷◌, 
 use Rattle.std.proofs.lemmas.Result.{err_from_is_err_and}
 use Rattle.list_machine.specs.declared.event.Limits.{Limits}
 use Rattle.doc_json.specs.declared.bulk.BulkItem.{BulkItem}
-use Rattle.es_rest.specs.Items.{items_of}
+use Rattle.es_route.specs.Items.{items_of}
 use Rattle.es_rest.specs.Led.{BulkCut, ItemCut, ItemDone, ItemsDone}
-use Rattle.es_rest.proofs.Bulks.{Gone, ahead_ends, ahead_next, ahead_starts, gone_all, gone_cut, gone_done, gone_none, gone_so_far, same_items}
+use Rattle.es_route.proofs.Walks.{ahead_ends, ahead_next, ahead_starts, same_items}
+use Rattle.es_rest.proofs.Bulks.{Gone, gone_all, gone_cut, gone_done, gone_none, gone_so_far}
 use Rattle.es_rest.proofs.Led.{by_names}
 use Rattle.es_rest.proofs.bulk.write_items.Goals as goal
 

@@ -1,8 +1,9 @@
 -- Some first items were gone through, and the rest stand from here on.
 use Rattle.std.proofs.Common.{◌≡◌, option_map, ◌-◌, length, List, Ok}
 use Rattle.doc_json.specs.declared.bulk.BulkItem.{BulkItem}
-use Rattle.es_rest.specs.Items.{items_of}
-use Rattle.es_rest.proofs.Bulks.{Ahead, Gone}
+use Rattle.es_route.specs.Items.{items_of}
+use Rattle.es_route.proofs.Walks.{Ahead}
+use Rattle.es_rest.proofs.Bulks.{Gone}
 use Rattle.es_rest.proofs.bulk.write_items.Given as goal
 
 abbrev pub invariant-items : goal.invariant-items

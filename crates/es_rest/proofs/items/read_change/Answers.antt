@@ -1,5 +1,0 @@
-use Rattle.es_rest.proofs.Objects.{doc_object}
-use Rattle.es_rest.proofs.items.read_change.Goals as goal
-
-pub returns-in-Ok-clause-object : goal.returns-in-Ok-clause-object
-returns-in-Ok-clause-object c = doc_object c.as_slice.result.now c.in-Ok.doc c.in-Ok.ensures.answer

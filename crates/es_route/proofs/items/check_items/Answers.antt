@@ -1,0 +1,27 @@
+-- Each item is a byte long at least, so that all are gone through.
+use Rattle.std.proofs.Common.{◌≡◌, Err, Ok, ap, option_map, subst, sym, ◌∙◌}
+use Rattle.es_route.specs.Items.{body_fault, items_of}
+use Rattle.es_route.specs.Route.{Answers, checked}
+use Rattle.es_route.proofs.Walks.{fault_told, walk_fails, walk_next, walk_starts}
+use Rattle.es_route.proofs.items.check_items.Goals as goal
+
+pub items-init : goal.items-init
+items-init c = walk_starts (option_map (λ name. name.now) c.args.index) c.args.body.now
+
+pub items-preserved-in-Ok-Some : goal.items-preserved-in-Ok-Some
+items-preserved-in-Ok-Some c =
+    let on = rw c.in-Ok-Some.field-0-is at c.in-Ok-Some.ensures.onward in
+    walk_next (option_map (λ name. name.now) c.args.index) c.args.body.now c.items.at c.in-Ok-Some.item (c.in-Ok-Some.ensures.answer ∙ ap Ok c.in-Ok-Some.field-0-is) on.0 on.1 c.items.invariant
+
+pub items-preserved : goal.items-preserved
+items-preserved c =
+    let on = rw c.in-Ok-Some.field-0-is at c.in-Ok-Some.ensures.onward in
+    walk_next (option_map (λ name. name.now) c.args.index) c.args.body.now c.items.at c.in-Ok-Some.item (c.in-Ok-Some.ensures.answer ∙ ap Ok c.in-Ok-Some.field-0-is) on.0 on.1 c.items.invariant
+
+-- at a fault
+pub returns-in-Err-Is : goal.returns-in-Err-Is
+returns-in-Err-Is c =
+    let index = option_map (λ name. name.now) c.args.index in
+    let asked = checked (items_of index c.args.body.now) in
+    let is : asked ≡ Err (body_fault c.in-Err-Is.fault) = walk_fails index c.args.body.now c.items.at c.in-Err-Is.fault (rw c.in-Err-Is.field-0-is at c.in-Err-Is.ensures.answer) c.items.invariant in
+    subst (λ f. Answers (Err f) asked) (sym (c.body_fault.ensures ∙ ap body_fault c.in-Err-Is.fault-is)) (fault_told c.in-Err-Is.fault asked is)

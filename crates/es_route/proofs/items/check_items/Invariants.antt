@@ -1,0 +1,10 @@
+-- The fault of the items that are left is that of all.
+use Rattle.std.proofs.Common.{option_map, ◌-◌, length}
+use Rattle.es_route.proofs.Walks.{Walked}
+use Rattle.es_route.proofs.items.check_items.Given as goal
+
+abbrev pub invariant-items : goal.invariant-items
+invariant-items l = Walked (option_map (λ name. name.now) l.index) l.body l.at
+
+abbrev pub decreases-items : goal.decreases-items
+decreases-items l = length l.body - l.at

@@ -1,0 +1,5 @@
+-- A slash less each time.
+use Rattle.es_route.proofs.paths.+part.Given as goal
+
+abbrev pub decreases-part : goal.decreases-part
+decreases-part l = l.count

@@ -1,0 +1,4 @@
+pub mod Moments
+pub mod Paths
+pub mod Items
+pub mod Route

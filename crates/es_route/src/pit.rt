@@ -1,0 +1,101 @@
+ghost use Rattle.std.specs.Prelude.{◌≡◌, None, IfOk};
+ghost use Rattle.doc_json.specs.Json.{data_of};
+ghost use Rattle.search_json.specs.Pits.{pit_close_of};
+ghost use Rattle.es_route.specs.Paths.{keep_in, params_of};
+ghost use Rattle.es_route.specs.Route.{Answers, AsksSound, closing_asked, closing_of, empty_body, is_empty_object, opening_asked, opening_of, pit_number};
+
+use crate::ask::{Ask, index_in, is_blank, limit_told, named_index, refresh_of};
+use crate::items::body_fault;
+use crate::params::{keep_in, params_of};
+use ctx_ids::{ContextId, Kind};
+use doc_json::{is_form, read_data};
+use es_types::{Fail, KeepAlive, LimitName, NoMemory, Text};
+use http_wire::Request;
+use reply_json::RestFault;
+use search_json::read_pit_close;
+use std::alloc::Global;
+
+// How long the query says that a point in time is kept.
+fn keep_of(alloc: Global, request: &Request) -> Result<Option<KeepAlive>, RestFault>
+    ensures { Answers result (keep_in None (params_of request.now.query)) }
+{
+    let params = params_of(alloc, request.query.as_slice())?;
+    keep_in(alloc, None, &params)
+}
+
+fn is_empty_object(alloc: Global, body: &[u8]) -> Result<bool, NoMemory>
+    ensures { IfOk result (λ is. is ≡ is_empty_object (data_of body.now)) }
+{
+    match read_data(alloc, body)? {
+        Some(value) => Ok(is_form(&value, &[])),
+        None => Ok(false),
+    }
+}
+
+// No body, or an object without members.
+fn empty_body(alloc: Global, request: &Request) -> Result<bool, RestFault>
+    ensures { Answers result (empty_body request.now) }
+{
+    let body = request.body.as_slice();
+    if is_blank(body) || is_empty_object(alloc, body)? {
+        Ok(true)
+    } else {
+        Err(RestFault::BadBody)
+    }
+}
+
+fn opening_of(index: Text, keep: Option<KeepAlive>) -> Result<Ask, RestFault>
+    ensures answer { result ≡ opening_of index keep }
+    ensures sound { IfOk result AsksSound }
+{
+    match keep {
+        None => limit_told(index, LimitName::KeepAlive),
+        Some(keep) => Ok(Ask::OpenPit {
+            index: named_index(index)?,
+            keep,
+        }),
+    }
+}
+
+/// Which index gets a point in time, and how long that is kept.
+pub fn opening_asked(alloc: Global, request: &Request) -> Result<Ask, RestFault>
+    ensures answer { Answers result (opening_asked request.now) }
+    ensures sound { IfOk result AsksSound }
+{
+    let index = index_in(alloc, request)?;
+    let keep = keep_of(alloc, request)?;
+    let _ = empty_body(alloc, request)?;
+    opening_of(index, keep)
+}
+
+/// The number of a point in time; an id of another kind has 0, which none has.
+pub fn pit_number(id: ContextId) -> u64
+    ensures { result ≡ pit_number id }
+{
+    match id.kind {
+        Kind::Pit => id.number,
+        _ => 0,
+    }
+}
+
+fn closing_of(alloc: Global, body: &[u8]) -> Result<Ask, RestFault>
+    ensures answer { Answers result (closing_of (pit_close_of body.now)) }
+    ensures sound { IfOk result AsksSound }
+{
+    match read_pit_close(alloc, body) {
+        Ok(id) => Ok(Ask::ClosePit {
+            number: pit_number(id),
+        }),
+        Err(Fail::Is(fault)) => Err(body_fault(fault)),
+        Err(Fail::NoMemory) => Err(RestFault::NoMemory),
+    }
+}
+
+/// Which point in time is closed.
+pub fn closing_asked(alloc: Global, request: &Request) -> Result<Ask, RestFault>
+    ensures answer { Answers result (closing_asked request.now) }
+    ensures sound { IfOk result AsksSound }
+{
+    let _ = refresh_of(alloc, false, request)?;
+    closing_of(alloc, request.body.as_slice())
+}
