@@ -22,7 +22,7 @@ module _ (limits : Limits) (seat moment : ℕ) (index : Option (List ℕ)) (body
   these : items ≡ items_in (items_of index body)
   these = sym (ap items_in are)
 
-  -- memory was wanted at the items
+  -- memory ran out at the items
   pub bulk_cut : (old new : History) → BulkCut limits seat moment items old new → Interrupted limits seat moment (Bulk index body refresh) old new
   bulk_cut old new cut =
       led_cut limits seat moment (Bulk index body refresh) old new

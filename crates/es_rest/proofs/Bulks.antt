@@ -1,5 +1,5 @@
--- The items of a bulk, one behind the other.
-use Rattle.std.proofs.Common.{cond, MatchResult, ◌≡◌, refl, sym, ap, subst, ◌∙◌, inl, inr, ⊎_elim, ℕ, ◌+◌, List, [], ◌∷◌, ◌++◌, Result, Ok, Err, append_assoc}
+-- The items of a bulk, one after the other.
+use Rattle.std.proofs.Common.{cond, MatchResult, ◌≡◌, refl, sym, ap, subst, ◌∙◌, inl, inr, ⊎_elim, ℕ, List, [], ◌∷◌, ◌++◌, Result, Ok, Err, append_assoc}
 use Rattle.std.specs.Prelude.{OnOk, Bool, true, false, ◌||◌, bytes_eq}
 use Rattle.std.proofs.lemmas.List.{append-nil}
 use Rattle.list_machine.specs.declared.event.Event.{Event}
@@ -8,7 +8,6 @@ use Rattle.list_machine.specs.declared.event.Limits.{Limits}
 use Rattle.list_machine.specs.Run.{History}
 use Rattle.list_machine.specs.Serving.{Asked, asked}
 use Rattle.doc_json.specs.declared.bulk.BulkItem.{BulkItem}
-use Rattle.doc_json.specs.declared.fault.BodyFault.TheVariants as bad
 use Rattle.reply_json.specs.declared.response.BulkLine.{BulkLine}
 use Rattle.reply_json.specs.declared.response.BulkOutcome.TheVariants as outcome
 use Rattle.reply_json.specs.declared.response.Response.{Response}
@@ -152,7 +151,7 @@ module _ (limits : Limits) (seat moment : ℕ) where
         changed = sym (g.changed []) ∙ ap (changed_by [] all) (append-nil g.replies);
       }
 
-  -- memory was wanted between two items, or at one
+  -- memory ran out between two items, or at one
   pub gone_so_far : (all : List BulkItem) (old new : History) (written : Written) (left : List BulkItem) → Gone all old new written left → BulkCut limits seat moment all old new
   gone_so_far all old new written left g later = record { part = g.part; mid = new; talks = g.talks later; rest = inl refl }
 

@@ -6,7 +6,7 @@ use Rattle.es_rest.specs.Moments.{clock_answer, moments_of}
 use Rattle.es_rest.specs.Talk.{Exchange}
 use Rattle.es_rest.specs.Exchanges.{LastGoesOn}
 
--- the clock's answer behind these requests
+-- the clock's answer after these requests
 abbrev pub answer_after : ℕ → List Request → ℕ
 answer_after last [] = last
 answer_after last (request ∷ requests) = answer_after (clock_answer last request) requests

@@ -18,7 +18,7 @@ use Rattle.reply_json.specs.declared.response.Response.TheVariants.{Fault}
 use Rattle.reply_json.specs.declared.fault.RestFault.TheVariants.{NoMemory}
 use Rattle.es_rest.specs.Talk.{Responds, Tended}
 
--- a response that could not be printed is the one that memory is wanting
+-- a response that could not be printed is the one that memory ran out
 pub wants_instead : (limits : Limits) (seat moment : ℕ) (old new : History) (request : Request) (response : Response)
     → Responds limits seat moment old new request response → Responds limits seat moment old new request (Fault NoMemory)
 wants_instead limits seat moment old new request response h =
@@ -54,7 +54,7 @@ closed_with written now wire aim result words aims said wrote =
     let P : List ℕ → Type 0 = λ w. ((result ≡ aim) × Wrote written now w) ⊎ ((result ≡ end.WriteFault) × WroteSome written now w) in
     record { aim = aim; aims = aims; wrote = subst P said wrote }
 
--- a response with its text, or the one that memory is wanting
+-- a response with its text, or the one that memory ran out
 pub answered_by : (limits : Limits) (seat moment : ℕ) (old new : History) (request : Request) (response : Response) (made : Option (List ℕ))
     → Responds limits seat moment old new request response → IfSome made (λ bytes. bytes ≡ text response request.last)
     → Answered limits seat moment old new request (words_text made request.last)

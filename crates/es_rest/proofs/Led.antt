@@ -56,13 +56,13 @@ module _ (limits : Limits) (seat moment : ℕ) where
         is = is ∙ ap (λ (f : Option RestFault). or_fault f (answer_of ask replies ran.part)) (sym ran.is) ∙ sym (led.after after ran.part);
       }
 
-  -- memory was wanted at those events
+  -- memory ran out at those events
   pub led_cut : (ask : Ask) (old new : History) → ((later : List Reply → Script) → CutShort limits seat moment (each (events_of ask) later) old new)
       → Interrupted limits seat moment ask old new
   unfolding script_of
   led_cut ask old new cut = cut (λ said. refreshes (refreshed_of ask said))
 
-  -- or behind them
+  -- or after them
   pub led_strayed : (ask : Ask) (old mid new : History) (replies : List Reply) → Led limits seat moment (events_of ask) old mid replies
       → CutShort limits seat moment (refreshes (refreshed_of ask replies)) mid new → Interrupted limits seat moment ask old new
   unfolding script_of
@@ -113,7 +113,7 @@ module _ (limits : Limits) (seat moment : ℕ) where
       led_strayed ask old mid new (said ∷ []) (led_label ask event name to indexes old mid said label was)
       (subst (λ (l : List (List ℕ)). CutShort limits seat moment (refreshes l) mid new) (sym these) cut)
 
-  -- memory was wanted before anything was asked
+  -- memory ran out before anything was asked
   pub cut_before : (ask : Ask) (old : History) → Interrupted limits seat moment ask old old
   cut_before ask old = cut_none limits seat moment (script_of ask) old
 

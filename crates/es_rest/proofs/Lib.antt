@@ -7,4 +7,5 @@ pub mod Talks
 pub mod Exchanges
 pub mod Clocks
 pub mod Progress
+pub mod Ends
 pub mod Whole

@@ -8,7 +8,7 @@ use Rattle.list_machine.specs.declared.event.Limits.{Limits}
 use Rattle.list_machine.specs.Run.{History}
 use Rattle.list_machine.specs.Serving.{Asked, MayHaveAsked, asked}
 use Rattle.es_rest.specs.Led.{EndedBy, Published, WasRefreshed}
-use Rattle.es_rest.specs.Scripts.{CutShort, Part, RanScript, Script, Strayed, Talks, behind_seal, is_refused, publishes, refresh, refreshes, refusal, refused}
+use Rattle.es_rest.specs.Scripts.{CutShort, Part, RanScript, Script, Strayed, Talks, after_seal, is_refused, publishes, refresh, refreshes, refusal, refused}
 use Rattle.es_rest.proofs.Scripts.{cut_first, cut_on, drop_all, drop_at, first_of-none, if_false, if_true, not_refused, refused-append, talks_on, talks_one}
 
 module _ (limits : Limits) (seat moment : ℕ) where
@@ -37,7 +37,7 @@ module _ (limits : Limits) (seat moment : ℕ) where
       (t.talks later) (λ rest. t.goes later rest ∙ next_is index numbers count upto later rest at)
       (talks_one limits seat moment (publishes index count (upto ∷ drop (count + 1) numbers) later) mid new (Publish index count upto) said refl was)
 
-  -- what follows behind one more
+  -- what follows after one more
   told_goes : (index numbers : List ℕ) (old mid : History) (count upto : ℕ) (said : Reply) (t : Told index numbers old mid count)
       → slice_get numbers count ≡ Some upto → (later : Script) (rest : Part)
       → publishes index 0 numbers later ((t.part ++ (Publish index count upto, said) ∷ []) ++ rest)
@@ -87,7 +87,7 @@ module _ (limits : Limits) (seat moment : ℕ) where
     bad,
   )
 
-  -- memory was wanted between two shards, or at one
+  -- memory ran out between two shards, or at one
   pub told_cut : (index numbers : List ℕ) (old new : History) (count : ℕ) → Told index numbers old new count → Strayed limits seat moment (publishes index 0 numbers) old new
   told_cut index numbers old new count t later = record { part = t.part; mid = new; talks = t.talks later; rest = inl refl }
 
@@ -100,7 +100,7 @@ module _ (limits : Limits) (seat moment : ℕ) where
 
   -- ---- an index
 
-  -- behind a Seal all were published
+  -- after a Seal all were published
   pub was_refreshed : (index numbers : List ℕ) (old mid new : History) → Asked limits seat 4 old mid (asked seat moment (Seal index)) (Sealed numbers)
       → Published limits seat moment index numbers mid new None → WasRefreshed limits seat moment index old new numbers
   was_refreshed index numbers old mid new was p =
@@ -130,7 +130,7 @@ module _ (limits : Limits) (seat moment : ℕ) where
 
   -- the Seal was answered no numbers
   pub ended_first : (index : List ℕ) (old new : History) (said : Reply) → Asked limits seat 4 old new (asked seat moment (Seal index)) said
-      → ((later : Script) (part : Part) → behind_seal index said later part ≡ None) → EndedBy limits seat moment index old new said
+      → ((later : Script) (part : Part) → after_seal index said later part ≡ None) → EndedBy limits seat moment index old new said
   ended_first index old new said was none =
       record {
         stopped = record {

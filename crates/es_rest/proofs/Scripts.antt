@@ -24,7 +24,7 @@ rest-none : (a b : Option RestFault) → first_of a b ≡ None → b ≡ None
 rest-none None b e = e
 rest-none (Some fault) b e = absurd (cc)
 
--- behind a part without a refusal
+-- after a part without a refusal
 pub refused-append : (part more : Part) → refused part ≡ None → refused (part ++ more) ≡ refused more
 refused-append [] more e = refl
 refused-append (said ∷ part) more e =
@@ -96,7 +96,7 @@ module _ (limits : Limits) (seat moment : ℕ) where
   talks_same s t old new (said ∷ part) same h =
       (h.0, sym (same []) ∙ h.1, h.2, talks_same (λ rest. s (said ∷ rest)) (λ rest. t (said ∷ rest)) h.0 new part (λ rest. same (said ∷ rest)) h.3)
 
-  -- behind a part another script went on
+  -- after a part another script went on
   pub talks_on : (s t : Script) (old mid new : History) (part more : Part) → Talks limits seat moment s old mid part
       → ((rest : Part) → s (part ++ rest) ≡ t rest) → Talks limits seat moment t mid new more → Talks limits seat moment s old new (part ++ more)
   talks_on s t old mid new [] more h goes k =
@@ -118,7 +118,7 @@ module _ (limits : Limits) (seat moment : ℕ) where
       → CutShort limits seat moment s old new
   cut_first s old new event next tried = record { part = []; mid = old; talks = refl; rest = inr (event, next, tried) }
 
-  -- behind a part another script was cut short
+  -- after a part another script was cut short
   pub cut_on : (s t : Script) (old mid new : History) (part : Part) → Talks limits seat moment s old mid part
       → ((rest : Part) → s (part ++ rest) ≡ t rest) → CutShort limits seat moment t mid new → CutShort limits seat moment s old new
   cut_on s t old mid new part h goes c =

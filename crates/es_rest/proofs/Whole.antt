@@ -19,7 +19,7 @@ same_requests : (bytes rest : List ℕ) (served requests : List Request) → len
 same_requests bytes rest served requests room cut ends spells =
     spells_one bytes served requests rest [] (subst (λ (l : List ℕ). Spells l served rest) (take_all CONNECTION_BYTES bytes room) cut) ends spells (inl (inl refl))
 
--- what an end says where nothing stands behind the requests
+-- what an end says where nothing stands after the requests
 pub which_end : (bytes : List ℕ) (served requests : List Request) (ended : ConnEnd) → Cuts bytes served ended → Spells bytes requests [] → length bytes ≤ CONNECTION_BYTES
     → (ended ≡ end.ReadFault → ⊥) → (ended ≡ end.WriteFault → ⊥) → (ended ≡ end.NoMemory) ⊎ ((ended ≡ end.Done) × (served ≡ requests))
 which_end bytes served requests end.Done cuts spells room read write =

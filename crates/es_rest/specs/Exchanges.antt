@@ -17,7 +17,7 @@ use Rattle.es_rest.specs.Headline.{last_words}
 use Rattle.es_rest.specs.Moments.{clock_answer}
 use Rattle.es_rest.specs.Talk.{Exchange, Responds, Served}
 
--- no text stands for the one that memory is wanting
+-- no text stands for the one that memory ran out
 abbrev pub words_text : Option (List ℕ) → Bool → List ℕ
 words_text (Some bytes) last = bytes
 words_text None last = text (Fault fault.NoMemory) last
@@ -51,7 +51,7 @@ pub record Exchanged (limits : Limits) (seat moment : ℕ) (front after : Histor
   pub served : Served limits seat front after x
   pub wrote : WroteBy written now (text x.response request.last) result
 
--- what an end of the wire comes to; want of memory may meet its words too
+-- what an end of the wire comes to; memory may run out at its words too
 abbrev pub Aims : WireEnd → ConnEnd → Type 0
 Aims wire.Truncated end.Truncated = Unit {0}
 Aims wire.NotBuilt end.Refused = Unit {0}

@@ -19,7 +19,7 @@ requests_of served = map (λ (x : Exchange). x.request) served
 
 -- ---- the bytes that were read
 
--- what the bytes that are left of a connection say of its end, where some more stand behind them or not
+-- what the bytes that are left of a connection say of its end, where some more stand after them or not
 abbrev pub EndsWith : List ℕ → List ℕ → ConnEnd → Type 0
 EndsWith bytes rest Done = (length bytes ≤ CONNECTION_BYTES) × (rest ≡ [])
 EndsWith bytes rest Truncated = (length bytes ≤ CONNECTION_BYTES) × (rest ≢ []) × IsUnfinished rest
@@ -27,13 +27,13 @@ EndsWith bytes rest Refused = IsRefused rest
 EndsWith bytes rest TooMuch = (CONNECTION_BYTES < length bytes) × HasNoRequest rest
 EndsWith bytes rest end = Unit {0}
 
--- The bytes begin with these requests, and behind them stands what ended the connection.
+-- The bytes begin with these requests, and after them stands what ended the connection.
 pub record Cuts (bytes : List ℕ) (requests : List Request) (end : ConnEnd) : Type 0 where
   pub rest : List ℕ
   pub spells : Spells (take CONNECTION_BYTES bytes) requests rest
   pub ends : EndsWith bytes rest end
 
--- The bytes that were taken are these requests, and behind them no whole one.
+-- The bytes that were taken are these requests, and after them no whole one.
 pub record TookAll (bytes : List ℕ) (left : Option (List ℕ)) (requests : List Request) : Type 0 where
   pub taken : List ℕ
   pub after : List ℕ
@@ -77,7 +77,7 @@ AreWritten served end = AreWhole served
 abbrev pub texts_of : List Exchange → List ℕ
 texts_of served = flat_map (λ (x : Exchange). text x.response x.request.last) served
 
--- what is written at an end of its own accord: a refused head and want of memory close the connection
+-- what is written at an end of its own accord: a refused head closes the connection, and so does memory that ran out
 abbrev pub last_words : ConnEnd → List ℕ
 last_words Refused = text (Fault fault.NotBuilt) true
 last_words NoMemory = text (Fault fault.NoMemory) true
@@ -94,7 +94,7 @@ pub record IsCutInResponse (written : List ℕ) (after : Option (List ℕ)) (ser
   pub at : IsLastCut served
   pub cut : IsCut written after (texts_of at.first) (text at.last.response at.last.request.last)
 
--- all responses were written, and the words of an end were cut, which the bytes or want of memory gave
+-- all responses were written, and the words of an end were cut, which the bytes gave, or memory that ran out
 pub record IsCutAtEnd (left left_after : Option (List ℕ)) (written : List ℕ) (after : Option (List ℕ)) (served : List Exchange) : Type 0 where
   pub aim : ConnEnd
   pub whole : AreWhole served
@@ -130,7 +130,7 @@ abbrev pub latest : ℕ → List Exchange → ℕ
 latest from [] = from
 latest from (x ∷ served) = latest x.moment served
 
--- Whatever clock it is, whose greatest answers before and behind the call are these: the moment is the greatest that it answered in
+-- Whatever clock it is, whose greatest answers before and after the call are these: the moment is the greatest that it answered in
 -- the call.
 pub record AreMoments (last : Option ℕ) (begun greatest : ℕ) (served : List Exchange) : Type 0 where
   pub never_fall : NeverFalls 0 served

@@ -64,7 +64,7 @@ changed_and names index more (Err fault) replies = more names replies
 changed_and names index more (Ok event) (said ∷ replies) = more (with_index names index said) replies
 changed_and names index more (Ok event) [] = more names []
 
--- the indexes of the items that were taken, behind those that were before
+-- the indexes of the items that were taken, after those that were before
 abbrev pub changed_by : List (List ℕ) → List BulkItem → List Reply → List (List ℕ)
 changed_by names [] replies = names
 changed_by names (item ∷ items) replies = changed_and names item.index (λ more. changed_by more items) (write_of item) replies

@@ -84,7 +84,7 @@ abbrev pub ItemDone : Limits → ℕ → ℕ → History → History → BulkIte
 ItemDone limits seat moment old new item before after =
     ItemRefused old new item before after ⊎ ItemAsked limits seat moment old new item before after
 
--- memory was wanted at it
+-- memory ran out at it
 abbrev pub ItemCut : Limits → ℕ → ℕ → History → History → BulkItem → Type 0
 ItemCut limits seat moment old new item =
     (new ≡ old) ⊎ ((event : Event) × (write_of item ≡ Ok event)
@@ -97,6 +97,6 @@ pub record ItemsDone (limits : Limits) (seat moment : ℕ) (items : List BulkIte
   pub lines : after.lines.items ≡ lines_of items replies
   pub changed : after.changed ≡ changed_by [] items replies
 
--- or memory was wanted on the way
+-- or memory ran out on the way
 abbrev pub BulkCut : Limits → ℕ → ℕ → List BulkItem → History → History → Type 0
 BulkCut limits seat moment items old new = (later : List Reply → Script) → CutShort limits seat moment (each (writes_of items) later) old new

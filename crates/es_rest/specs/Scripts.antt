@@ -15,7 +15,7 @@ use Rattle.reply_json.specs.declared.fault.RestFault.TheVariants as fault
 abbrev pub Part : Type 0
 Part = List (Event × Reply)
 
--- the event that is asked behind these, unless all were asked
+-- the event that is asked after these, unless all were asked
 abbrev pub Script : Type 0
 Script = Part → Option Event
 
@@ -67,21 +67,21 @@ each [] later part = later [] part
 each (next ∷ events) later [] = Some next
 each (next ∷ events) later (said ∷ part) = each events (λ replies. later (said.1 ∷ replies)) part
 
--- a Publish of each shard from this one on, up to its number, and then more; nothing behind a refused one
+-- a Publish of each shard from this one on, up to its number, and then more; nothing after a refused one
 abbrev pub publishes : List ℕ → ℕ → List ℕ → Script → Script
 publishes index shard [] later part = later part
 publishes index shard (upto ∷ numbers) later [] = Some (event.Publish index shard upto)
 publishes index shard (upto ∷ numbers) later (said ∷ part) = if is_refused said.1 then None else publishes index (shard + 1) numbers later part
 
--- behind a Seal its shards are published
-abbrev pub behind_seal : List ℕ → Reply → Script → Script
-behind_seal index (reply.Sealed numbers) later part = publishes index 0 numbers later part
-behind_seal index other later part = None
+-- after a Seal its shards are published
+abbrev pub after_seal : List ℕ → Reply → Script → Script
+after_seal index (reply.Sealed numbers) later part = publishes index 0 numbers later part
+after_seal index other later part = None
 
 -- a refresh of an index, and then more
 abbrev pub refresh : List ℕ → Script → Script
 refresh index later [] = Some (event.Seal index)
-refresh index later (said ∷ part) = behind_seal index said.1 later part
+refresh index later (said ∷ part) = after_seal index said.1 later part
 
 -- a refresh of each index in turn
 abbrev pub refreshes : List (List ℕ) → Script
@@ -126,6 +126,6 @@ pub record Stopped (limits : Limits) (seat moment : ℕ) (way : Script → Scrip
   pub all : (later : Script) → way later part ≡ None
   pub is : refused part ≡ fault
 
--- memory was wanted on the way
+-- memory ran out on the way
 abbrev pub Strayed : Limits → ℕ → ℕ → (Script → Script) → History → History → Type 0
 Strayed limits seat moment way old new = (later : Script) → CutShort limits seat moment (way later) old new

@@ -110,7 +110,7 @@ abbrev pub or_fault : Option RestFault → Response → Response
 or_fault (Some why) answer = response.Fault why
 or_fault None answer = answer
 
--- what follows from the replies to these events, and from the part behind them
+-- what follows from the replies to these events, and from the part after them
 abbrev pub after_each : List Event → (List Reply → Part → Response) → Part → Response
 after_each [] later part = later [] part
 after_each (event ∷ events) later [] = response.Fault fault.NotBuilt
@@ -129,7 +129,7 @@ pub record Conversation (limits : Limits) (seat moment : ℕ) (ask : Ask) (old n
   pub all : script_of ask part ≡ None
   pub is : response ≡ response_of ask part
 
--- memory was wanted on the way
+-- memory ran out on the way
 abbrev pub Interrupted : Limits → ℕ → ℕ → Ask → History → History → Type 0
 Interrupted limits seat moment ask old new = CutShort limits seat moment (script_of ask) old new
 
@@ -150,7 +150,7 @@ pub record IsCutShort (limits : Limits) (seat moment : ℕ) (old new : History) 
   pub route : asked_of request ≡ Ok ask
   pub interrupted : Interrupted limits seat moment ask old new
 
--- memory was wanted, at any point of it
+-- memory ran out, at any point of it
 pub record WantsMemory (limits : Limits) (seat moment : ℕ) (old new : History) (request : Request) (response : Response) : Type 0 where
   pub asked : (new ≡ old) ⊎ IsCutShort limits seat moment old new request
   pub is : response ≡ Fault fault.NoMemory

@@ -16,7 +16,7 @@ pub record ServesAll (limits : Limits) (seat : ℕ) (old new : History) (left af
   pub all : requests_of headline.served ≡ requests
 
 -- Where what is left of a connection is these requests and no more, and no fault was counted, all are answered, or
--- memory was wanted.
+-- memory ran out.
 abbrev pub ServesWhole : Limits → ℕ → History → History → Option (List ℕ) → Option (List ℕ) → Option (List ℕ) → Option (List ℕ) → Option ℕ → ℕ → ℕ → ℕ → ℕ → ℕ → ℕ → ConnEnd → Type 0
 ServesWhole limits seat old new None after written now last begun greatest reads reads_after writes writes_after ended = Unit {0}
 ServesWhole limits seat old new (Some bytes) after written now last begun greatest reads reads_after writes writes_after ended =

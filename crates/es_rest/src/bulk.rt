@@ -1,3 +1,4 @@
+//! Bulks.
 ghost use Rattle.std.specs.Prelude.{◌≡◌, ◌++◌, [], ◌∷◌, List, Ok, OnOk, IsTrue, MatchResult, if◌then◌else◌, option_map};
 ghost use Rattle.es_types.specs.Name.{is_index_name};
 ghost use Rattle.doc_json.specs.declared.bulk.BulkItem.{BulkItem};

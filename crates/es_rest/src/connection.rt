@@ -1,9 +1,10 @@
+//! One connection: its requests in turn, until its end.
 ghost use Rattle.std.specs.Prelude.{◌≡◌, ◌⊎◌, ℕ, ◌+◌, ◌*◌, ◌<◌, ◌≤◌, max, List, [], Option, Some, None, IfOk, IfSome, IfNone, OnOk, OnErr};
 ghost use Rattle.es_types.specs.declared.limits.TheConstants.{CONNECTION_BYTES};
 ghost use Rattle.es_outside.specs.Told.{Rose};
 ghost use Rattle.http_wire.specs.Stream.{Wrote, WroteSome};
 ghost use Rattle.es_rest.specs.Headline.{Headline};
-ghost use Rattle.es_route.specs.Paths.{all_routes};
+ghost use Rattle.es_route.specs.Resources.{all_routes};
 ghost use Rattle.es_route.specs.Route.{PitSearchesShowPlaces};
 ghost use Rattle.es_rest.specs.Talk.{Tended};
 ghost use Rattle.es_rest.specs.Whole.{ServesWhole};
@@ -12,7 +13,7 @@ ghost use Rattle.es_rest.specs.Exchanges.{Answered, ClockAnswers, Closed, Exchan
 
 use crate::converse::respond;
 use es_outside::{Clock, Link};
-use es_route::{Place, pit_searches_show_places, routes, told_moment};
+use es_route::{Resource, pit_searches_show_places, routes, told_moment};
 use es_types::{Bytes, Moment, NoMemory};
 use http_wire::{Buf, Request, WireEnd, WriteFault, next_request, write_all};
 use list_machine::{Service, pages_in_turn};
@@ -29,7 +30,7 @@ pub enum ConnEnd {
     Refused,
     ReadFault,
     WriteFault,
-    /// Memory was wanted while a request was read.
+    /// Memory ran out while a request was read.
     NoMemory,
     /// The input ended inside a request.
     Truncated,
@@ -37,18 +38,18 @@ pub enum ConnEnd {
     TooMuch,
 }
 
-// The text of a response, unless memory is wanting for it.
+// The text of a response, unless memory ran out for it.
 fn words_of(alloc: Global, response: Response, last: bool) -> Option<Bytes>
     ensures { IfSome result (λ bytes. bytes ≡ text response last) }
 {
     print(alloc, &response, last).ok()
 }
 
-// Answers a request, with the text of its response. No text is the one that memory is wanting.
+// Answers a request, with the text of its response. No text is the one that memory ran out.
 fn answer<V: Service>(
     alloc: Global,
     service: &mut V,
-    router: &Router<Place>,
+    router: &Router<Resource>,
     request: &Request,
     moment: Moment,
 ) -> Option<Bytes>
@@ -77,7 +78,7 @@ fn write_words<L: Link>(link: &mut L, words: &Option<Bytes>, last: bool) -> Resu
     }
 }
 
-// What goes with a request. It is left out where the response wasn't written, and want of memory in it is dropped.
+// What goes with a request. It is left out where the response wasn't written, and nobody is told if memory runs out in it.
 fn tidy_up<V: Service>(service: &mut V, moment: Moment, written: bool)
     ensures tended { Tended (V.limits service.old) (V.seat service.old) moment written (V.front service.old) (V.front service.new) }
     ensures seat { V.seat service.new ≡ V.seat service.old }
@@ -96,7 +97,7 @@ fn exchange<V: Service, L: Link, C: Clock>(
     service: &mut V,
     link: &mut L,
     clock: &mut C,
-    router: &Router<Place>,
+    router: &Router<Resource>,
     request: &Request,
     moment: &mut Moment,
 ) -> Result<(), WriteFault>
@@ -138,7 +139,7 @@ fn write_last<L: Link>(link: &mut L, words: &[u8], aim: ConnEnd) -> ConnEnd
     }
 }
 
-// Ends a connection: a refused head and want of memory have a response.
+// Ends a connection: a refused head has a response, and so has memory that ran out.
 fn close<L: Link>(alloc: Global, link: &mut L, end: WireEnd) -> ConnEnd
     ensures closed { Closed (L.written link.old) (L.written link.new) end result }
     ensures silent { end ≡ WireEnd.ReadFault → result ≡ ConnEnd.ReadFault }
@@ -162,7 +163,7 @@ fn close<L: Link>(alloc: Global, link: &mut L, end: WireEnd) -> ConnEnd
 }
 
 // The routes, and a buffer for what is read.
-fn start(alloc: Global) -> Result<(Router<Place>, Buf), NoMemory>
+fn start(alloc: Global) -> Result<(Router<Resource>, Buf), NoMemory>
     ensures routes { IfOk result (λ parts. parts.0 ≡ all_routes) }
     ensures buf { IfOk result (λ parts. parts.1 ≡ record { bytes = []; room = CONNECTION_BYTES }) }
 {

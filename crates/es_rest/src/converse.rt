@@ -1,93 +1,25 @@
-ghost use Rattle.std.specs.Prelude.{◌≡◌, [], ◌∷◌, IfOk, MatchResult, if◌then◌else◌};
+//! What each request asks of the service, and what it is answered.
+ghost use Rattle.std.specs.Prelude.{◌≡◌, [], ◌∷◌, IfOk, MatchResult};
 ghost use Rattle.list_machine.specs.declared.event.Event.TheVariants as events;
 ghost use Rattle.list_machine.specs.declared.event.Which.TheVariants as which;
-ghost use Rattle.list_machine.specs.Serving.{IsAskable};
-ghost use Rattle.es_route.specs.declared.ask.Ask.{Ask};
 ghost use Rattle.es_route.specs.declared.ask.Ask.TheVariants as asks;
-ghost use Rattle.es_rest.specs.Led.{IsLabel};
-ghost use Rattle.es_route.specs.Paths.{all_routes};
+ghost use Rattle.es_route.specs.Resources.{all_routes};
 ghost use Rattle.es_route.specs.Route.{AsksSound};
-ghost use Rattle.es_rest.specs.Talk.{Conversation, Interrupted, Responds, search_name, search_route, sent_text, settled, status_of};
+ghost use Rattle.es_rest.specs.Talk.{Conversation, Interrupted, Responds};
 
 use crate::bulk::bulk;
-use crate::refresh::{Refreshed, refresh_all, refresh_index, refusal};
+use crate::label::{Label, put_label, remove_label, search_label};
+use crate::refresh::{Refreshed, refresh_index, refusal};
+use crate::single::{ask_one, settle};
 use ctx_ids::ContextId;
 use doc_json::IndexSpec;
-use es_route::{Ask, Place, routed};
-use es_types::{Copied, DocId, IndexName, Items, KeepAlive, Moment, NoMemory, Text};
+use es_route::{Ask, Resource, routed};
+use es_types::{Copied, IndexName, Items, KeepAlive, Moment, NoMemory, Text};
 use http_wire::Request;
 use list_machine::{Change, Event, Reply, SearchRequest, Service, Target, Which};
 use matchit::Router;
-use reply_json::{Response, RestFault, RouteName, closed_status, wrote_status};
+use reply_json::{Response, RestFault, RouteName};
 use std::alloc::Global;
-
-// By what a request of one event is answered: the name that its refusal prints, its route, and the index that it
-// refreshes where it is taken.
-#[derive(Drop)]
-struct Label {
-    name: Text,
-    route: RouteName,
-    refreshed: Vec<IndexName>,
-}
-
-// The index, where a refresh is asked.
-fn refreshed_if(alloc: Global, refresh: bool, index: &IndexName) -> Result<Vec<IndexName>, NoMemory>
-    ensures { IfOk result (λ indexes. indexes.items ≡ (if refresh then index.now ∷ [] else [])) }
-{
-    let mut indexes = Vec::new(alloc);
-    if refresh {
-        indexes.push(index.copy(alloc)?)?;
-    }
-    Ok(indexes)
-}
-
-fn status_of(reply: &Reply) -> u16
-    ensures { result ≡ status_of reply.now }
-{
-    match reply {
-        Reply::Wrote { result, seq: _ } => wrote_status(*result),
-        Reply::Closed { freed } => closed_status(*freed),
-        _ => 200,
-    }
-}
-
-// What a reply on a route is answered, unless it was refused.
-fn settle(refused: Option<RestFault>, reply: Reply, route: RouteName) -> Response
-    ensures { result ≡ settled refused reply route }
-{
-    match refused {
-        Some(fault) => Response::Fault(fault),
-        None => Response::Json {
-            status: status_of(&reply),
-            reply,
-            route,
-        },
-    }
-}
-
-// Asks for the one event of a request, and for a refresh where it was taken.
-fn ask_one<V: Service>(
-    alloc: Global,
-    service: &mut V,
-    event: Event,
-    label: Label,
-    moment: Moment,
-) -> Result<Response, NoMemory>
-    requires { IsAskable (V.limits service.old) (V.front service.old) event }
-    ensures talk { (ask : Ask) → IsLabel ask event label.name label.route label.refreshed.items → MatchResult result
-        (Conversation (V.limits service.old) (V.seat service.old) moment ask (V.front service.old) (V.front service.new))
-        (λ _. Interrupted (V.limits service.old) (V.seat service.old) moment ask (V.front service.old) (V.front service.new)) }
-    ensures seat { V.seat service.new ≡ V.seat service.old }
-    ensures limits { V.limits service.new ≡ V.limits service.old }
-{
-    let reply = service.ask(event, moment)?;
-    match refusal(label.name, &reply) {
-        Some(fault) => return Ok(Response::Fault(fault)),
-        None => {}
-    }
-    let refused = refresh_all(alloc, service, &label.refreshed, moment)?;
-    Ok(settle(refused, reply, label.route))
-}
 
 fn create<V: Service>(
     alloc: Global,
@@ -117,43 +49,6 @@ fn create<V: Service>(
         mapping,
     };
     ask_one(alloc, service, event, label, moment)
-}
-
-fn put_label(alloc: Global, index: &IndexName, id: &DocId, refresh: bool) -> Result<Label, NoMemory>
-    ensures name { IfOk result (λ label. label.name ≡ index.now) }
-    ensures route { IfOk result (λ label. label.route ≡ RouteName.Put index.now id.now) }
-    ensures refreshed { IfOk result (λ label. label.refreshed.items ≡ (if refresh then index.now ∷ [] else [])) }
-{
-    let refreshed = refreshed_if(alloc, refresh, index)?;
-    let name = index.text().copy(alloc)?;
-    let index = index.copy(alloc)?;
-    let id = id.copy(alloc)?;
-    Ok(Label {
-        name,
-        route: RouteName::Put { index, id },
-        refreshed,
-    })
-}
-
-fn remove_label(
-    alloc: Global,
-    index: &IndexName,
-    id: &DocId,
-    refresh: bool,
-) -> Result<Label, NoMemory>
-    ensures name { IfOk result (λ label. label.name ≡ index.now) }
-    ensures route { IfOk result (λ label. label.route ≡ RouteName.Remove index.now id.now) }
-    ensures refreshed { IfOk result (λ label. label.refreshed.items ≡ (if refresh then index.now ∷ [] else [])) }
-{
-    let refreshed = refreshed_if(alloc, refresh, index)?;
-    let name = index.text().copy(alloc)?;
-    let index = index.copy(alloc)?;
-    let id = id.copy(alloc)?;
-    Ok(Label {
-        name,
-        route: RouteName::Remove { index, id },
-        refreshed,
-    })
 }
 
 // Seals an index, and publishes what was sealed.
@@ -235,36 +130,6 @@ fn close_pit<V: Service>(
     };
     let event = close_event(alloc, number)?;
     ask_one(alloc, service, event, label, moment)
-}
-
-// The text of an id as it was sent.
-fn sent_text(alloc: Global, sent: Option<ContextId>) -> Result<Text, NoMemory>
-    ensures { IfOk result (λ text. text ≡ sent_text sent) }
-{
-    match sent {
-        Some(id) => id.to_text(alloc),
-        None => Ok(Text::of(String::new(alloc))),
-    }
-}
-
-fn search_label(alloc: Global, target: &Target, sent: Option<ContextId>) -> Result<Label, NoMemory>
-    ensures name { IfOk result (λ label. label.name ≡ search_name target.now sent) }
-    ensures route { IfOk result (λ label. label.route ≡ search_route target.now) }
-    ensures refreshed { IfOk result (λ label. label.refreshed.items ≡ []) }
-{
-    let refreshed = Vec::new(alloc);
-    match target {
-        Target::Index(index) => Ok(Label {
-            name: index.text().copy(alloc)?,
-            route: RouteName::Search { pit: None },
-            refreshed,
-        }),
-        Target::Pit { number, keep: _ } => Ok(Label {
-            name: sent_text(alloc, sent)?,
-            route: RouteName::Search { pit: Some(*number) },
-            refreshed,
-        }),
-    }
 }
 
 fn search<V: Service>(
@@ -351,12 +216,12 @@ fn converse<V: Service>(
     }
 }
 
-/// Answers a request: it asks the service for the events of the request, all at the moment. Want of memory is a
-/// response too. The routes are all that are built.
+/// Answers a request: it asks the service for the events of the request, all at the moment. Memory that runs out is
+/// a response too. The routes are all that are built.
 pub fn respond<V: Service>(
     alloc: Global,
     service: &mut V,
-    router: &Router<Place>,
+    router: &Router<Resource>,
     request: &Request,
     moment: Moment,
 ) -> Response

@@ -1,3 +1,4 @@
+//! The items of a bulk, and their lines of the response.
 ghost use Rattle.std.specs.Prelude.{◌≡◌, IfOk};
 ghost use Rattle.es_rest.specs.Items.{line_of, outcome_of};
 

@@ -6,7 +6,9 @@ mod bulk;
 mod connection;
 mod converse;
 mod items;
+mod label;
 mod refresh;
+mod single;
 
 pub use connection::{ConnEnd, serve_connection};
 pub use es_route::{Ask, pit_searches_show_places, route};

@@ -1,8 +1,9 @@
+//! Refreshes of indexes.
 ghost use Rattle.std.specs.Prelude.{◌≡◌, ◌≤◌, ℕ, List, None, MatchResult, is_some, length};
 ghost use Rattle.es_types.specs.declared.limits.TheConstants.{ALL_SHARDS};
 ghost use Rattle.list_machine.specs.declared.event.Reply.TheVariants as replies;
 ghost use Rattle.es_rest.specs.Led.{AreSealed, Published, RefreshWent};
-ghost use Rattle.es_rest.specs.Scripts.{CutShort, Part, RanScript, Script, Strayed, behind_seal, publishes, refresh, refreshes, refusal};
+ghost use Rattle.es_rest.specs.Scripts.{CutShort, Part, RanScript, Script, Strayed, after_seal, publishes, refresh, refreshes, refusal};
 
 use es_types::{Copied, IndexName, Items, Moment, NoMemory, Text};
 use list_machine::{Event, Reply, Service, sound_states};
@@ -58,7 +59,7 @@ pub enum Refreshed {
 fn sealed_numbers(reply: Reply) -> Result<Items<u64>, Reply>
     ensures { MatchResult result
         (λ numbers. reply ≡ replies.Sealed numbers)
-        (λ back. (back ≡ reply) × ((index : List ℕ) (then : Script) (part : Part) → behind_seal index reply then part ≡ None)) }
+        (λ back. (back ≡ reply) × ((index : List ℕ) (then : Script) (part : Part) → after_seal index reply then part ≡ None)) }
 {
     match reply {
         Reply::Sealed(numbers) => Ok(numbers),

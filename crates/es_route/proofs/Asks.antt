@@ -5,9 +5,10 @@ use Rattle.reply_json.specs.declared.fault.RestFault.TheVariants as fault
 use Rattle.std.specs.Prelude.{IsErrAnd, if◌then◌else◌}
 use Rattle.es_types.specs.Name.{is_doc_id, is_index_name}
 use Rattle.es_types.specs.declared.limit.LimitName.TheVariants as limit
-use Rattle.es_route.specs.Items.{named}
+use Rattle.es_route.specs.Limits.{named}
 use Rattle.es_route.specs.declared.ask.Ask.{Ask}
-use Rattle.es_route.specs.Route.{Answers, and_then, asked_when, behind_moment}
+use Rattle.es_route.specs.Answers.{Answers, and_then}
+use Rattle.es_route.specs.Route.{asked_when, moment_first}
 
 -- a part that is refused refuses the whole
 pub answers_err : {A B : Type 0} (asked : Result A RestFault) (next : A → Result B RestFault) (f : RestFault) → Answers (Err f) asked → Answers (Err f) (and_then asked next)
@@ -61,7 +62,7 @@ pub answers_failed : {A B : Type 0} (asked : Result A RestFault) (next : A → R
 answers_failed {A} {B} asked next f (Ok value) e h = absurd e
 answers_failed {A} {B} asked next f (Err y) e h = subst (λ (x : RestFault). Answers (Err x) (and_then asked next)) (sym e) (answers_err asked next f h)
 
--- memory may always be wanting
+-- memory may always run out
 pub answers_none : {A : Type 0} (asked : Result A RestFault) (r : Result A RestFault) → IsErrAnd r (λ y. y ≡ fault.NoMemory) → Answers r asked
 answers_none {A} asked (Ok value) e = absurd e
 answers_none {A} asked (Err y) e = subst (λ (x : RestFault). Answers (Err x) asked) (sym e) tt
@@ -78,31 +79,31 @@ pub named_failed : {A B : Type 0} (index id : List ℕ) (x : A) (y : B) (f : Res
 named_failed {A} {B} index id x y f r e h =
     answers_same (and_then (named index id x) (λ z. Ok y)) (named index id y) r (named_next index id x y (is_index_name index) (is_doc_id id)) (answers_failed (named index id x) (λ z. Ok y) f r e h)
 
--- what comes behind a moment follows from the answer
-answers_behind : (r asked : Result Ask RestFault) → Answers r asked → Answers (behind_moment r) (behind_moment asked)
-answers_behind (Ok value) asked h = ap behind_moment h
-answers_behind (Err fault.NotBuilt) asked h = ap behind_moment h
-answers_behind (Err (fault.BadParam name)) asked h = ap behind_moment h
-answers_behind (Err fault.BadBody) asked h = ap behind_moment h
-answers_behind (Err (fault.Limit name)) asked h = ap behind_moment h
-answers_behind (Err fault.BadId) asked h = ap behind_moment h
-answers_behind (Err fault.Spent) asked h = ap behind_moment h
-answers_behind (Err (fault.NoIndex name)) asked h = ap behind_moment h
-answers_behind (Err (fault.Exists name)) asked h = ap behind_moment h
-answers_behind (Err (fault.BadDoc doc)) asked h = ap behind_moment h
-answers_behind (Err fault.BadQuery) asked h = ap behind_moment h
-answers_behind (Err fault.BadSort) asked h = ap behind_moment h
-answers_behind (Err fault.BadAfter) asked h = ap behind_moment h
-answers_behind (Err (fault.NoContext id)) asked h = ap behind_moment h
-answers_behind (Err (fault.TooMany n)) asked h = ap behind_moment h
-answers_behind (Err fault.ShardFull) asked h = ap behind_moment h
-answers_behind (Err fault.NoMemory) asked h = tt
+-- what an unreadable moment makes of an answer
+answers_moment : (r asked : Result Ask RestFault) → Answers r asked → Answers (moment_first r) (moment_first asked)
+answers_moment (Ok value) asked h = ap moment_first h
+answers_moment (Err fault.NotBuilt) asked h = ap moment_first h
+answers_moment (Err (fault.BadParam name)) asked h = ap moment_first h
+answers_moment (Err fault.BadBody) asked h = ap moment_first h
+answers_moment (Err (fault.Limit name)) asked h = ap moment_first h
+answers_moment (Err fault.BadId) asked h = ap moment_first h
+answers_moment (Err fault.Spent) asked h = ap moment_first h
+answers_moment (Err (fault.NoIndex name)) asked h = ap moment_first h
+answers_moment (Err (fault.Exists name)) asked h = ap moment_first h
+answers_moment (Err (fault.BadDoc doc)) asked h = ap moment_first h
+answers_moment (Err fault.BadQuery) asked h = ap moment_first h
+answers_moment (Err fault.BadSort) asked h = ap moment_first h
+answers_moment (Err fault.BadAfter) asked h = ap moment_first h
+answers_moment (Err (fault.NoContext id)) asked h = ap moment_first h
+answers_moment (Err (fault.TooMany n)) asked h = ap moment_first h
+answers_moment (Err fault.ShardFull) asked h = ap moment_first h
+answers_moment (Err fault.NoMemory) asked h = tt
 
 -- a moment that isn't readable, and none or one that is
-pub answers_unreadable : (r result asked : Result Ask RestFault) (unreadable : Bool) → unreadable ≡ true → result ≡ behind_moment r → Answers r asked → Answers result (asked_when unreadable asked)
+pub answers_unreadable : (r result asked : Result Ask RestFault) (unreadable : Bool) → unreadable ≡ true → result ≡ moment_first r → Answers r asked → Answers result (asked_when unreadable asked)
 answers_unreadable r result asked unreadable is made h =
-    answers_same (behind_moment asked) (asked_when unreadable asked) result (ap (λ b. asked_when b asked) is)
-    (subst (λ (x : Result Ask RestFault). Answers x (behind_moment asked)) (sym made) (answers_behind r asked h))
+    answers_same (moment_first asked) (asked_when unreadable asked) result (ap (λ b. asked_when b asked) is)
+    (subst (λ (x : Result Ask RestFault). Answers x (moment_first asked)) (sym made) (answers_moment r asked h))
 
 pub answers_readable : (r asked : Result Ask RestFault) (unreadable : Bool) → unreadable ≡ false → Answers r asked → Answers r (asked_when unreadable asked)
 answers_readable r asked unreadable is h = answers_same asked (asked_when unreadable asked) r (ap (λ b. asked_when b asked) is) h

@@ -3,6 +3,6 @@ pub mod Objects
 pub mod Queries
 pub mod Parts
 pub mod Asks
-pub mod Limits
+pub mod Shards
 pub mod Numerals
 pub mod Shows

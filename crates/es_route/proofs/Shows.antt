@@ -23,13 +23,21 @@ use Rattle.search_json.specs.Pits.{pit_close_of}
 use Rattle.search_json.specs.Searches.{ShowsInPit, search_of}
 use Rattle.es_route.specs.declared.ask.Ask.{Ask}
 use Rattle.es_route.specs.declared.ask.Ask.TheVariants as ask
-use Rattle.es_route.specs.declared.paths.Place.{Place}
-use Rattle.es_route.specs.declared.paths.Place.TheVariants as place
+use Rattle.es_route.specs.declared.resource.Resource.{Resource}
+use Rattle.es_route.specs.declared.resource.Resource.TheVariants as resource
 use Rattle.es_route.specs.Moments.{is_unreadable}
-use Rattle.es_route.specs.Paths.{params_of, part, place_of, refresh_in, keep_in}
-use Rattle.es_route.specs.Items.{items_of, named}
-use Rattle.es_route.specs.Route.{PitSearchesShowPlaces, asked_of}
-use Rattle.es_route.specs.Route as Route
+use Rattle.es_route.specs.Resources.{resource_of}
+use Rattle.es_route.specs.Paths.{part, id_in, index_in, is_own_word}
+use Rattle.es_route.specs.Params.{params_of, refresh_in, keep_in}
+use Rattle.es_route.specs.Limits.{named, limit_told, named_index}
+use Rattle.es_route.specs.Items.{items_of, checked}
+use Rattle.es_route.specs.Route.{PitSearchesShowPlaces, asked_of, asked_at, asked_at_index, doc_asked, moment_first, of_index}
+use Rattle.es_route.specs.Answers.{and_then}
+use Rattle.es_route.specs.Bodies.{empty_body, no_body, some_body}
+use Rattle.es_route.specs.Methods.{built, check_built, gets_or_posts, is_method, puts_or_posts}
+use Rattle.es_route.specs.Documents.{bulk_asked, create_asked, create_of, index_bulk_asked, put_asked, put_of, refresh_asked, remove_asked}
+use Rattle.es_route.specs.Pits.{closing_asked, closing_of, opening_asked, opening_of}
+use Rattle.es_route.specs.Searches.{batch_asked, batch_used, check_search, index_told, index_where, limits_told, search_asked, search_told, searched_pit, target_asked}
 
 -- of one ask
 abbrev AskShows : Ask → Type 0
@@ -45,7 +53,7 @@ BodiesShow = (has_index : Bool) (batch : ℕ) (body : List ℕ) → IfOk (search
 
 -- ---- whatever came before it
 
-then_shows : {A : Type 0} (read : Result A RestFault) (next : A → Result Ask RestFault) → ((a : A) → Shows (next a)) → Shows (Route.and_then read next)
+then_shows : {A : Type 0} (read : Result A RestFault) (next : A → Result Ask RestFault) → ((a : A) → Shows (next a)) → Shows (and_then read next)
 then_shows (Ok a) next shows = shows a
 then_shows (Err fault) next shows = tt
 
@@ -54,133 +62,133 @@ either_shows : (test : Bool) (one other : Result Ask RestFault) → Shows one �
 either_shows true one other first second = first
 either_shows false one other first second = second
 
-index_shows : (index : List ℕ) (asked : Ask) → AskShows asked → Shows (Route.named_index index asked)
+index_shows : (index : List ℕ) (asked : Ask) → AskShows asked → Shows (named_index index asked)
 index_shows index asked shows = either_shows (is_index_name index) (Ok asked) (Err (fault.Limit limit.Index)) shows tt
 
 -- ---- searches
 
-searched_shows : (pit : Option PitRef) (search : SearchRequest) → IfSome pit (λ p. IsTrue (shows_place search.sort)) → Shows (Route.searched_pit pit search)
+searched_shows : (pit : Option PitRef) (search : SearchRequest) → IfSome pit (λ p. IsTrue (shows_place search.sort)) → Shows (searched_pit pit search)
 searched_shows None search shows = tt
 searched_shows (Some pit) search shows = shows
 
-target_shows : (index : Option (List ℕ)) (asked : SearchBody) → ShowsInPit asked → Shows (Route.target_asked index asked)
+target_shows : (index : Option (List ℕ)) (asked : SearchBody) → ShowsInPit asked → Shows (target_asked index asked)
 target_shows (Some index) asked shows = tt
 target_shows None asked shows = searched_shows asked.pit asked.request shows
 
-told_shows : (index : Option (List ℕ)) (batch : ℕ) (asked : Result SearchBody BodyFault) → IfOk asked ShowsInPit → Shows (Route.search_told index batch asked)
-told_shows index batch (Ok asked) shows = then_shows (Route.limits_told index batch) _ (λ index. target_shows index asked shows)
-told_shows index batch (Err (body.Limit limit.KeepAlive)) shows = then_shows (Route.index_told index) _ (λ index. tt)
-told_shows index batch (Err (body.Limit name)) shows = then_shows (Route.limits_told index batch) _ (λ index. tt)
-told_shows index batch (Err body.BadId) shows = then_shows (Route.limits_told index batch) _ (λ index. tt)
+told_shows : (index : Option (List ℕ)) (batch : ℕ) (asked : Result SearchBody BodyFault) → IfOk asked ShowsInPit → Shows (search_told index batch asked)
+told_shows index batch (Ok asked) shows = then_shows (limits_told index batch) _ (λ index. target_shows index asked shows)
+told_shows index batch (Err (body.Limit limit.KeepAlive)) shows = then_shows (index_told index) _ (λ index. tt)
+told_shows index batch (Err (body.Limit name)) shows = then_shows (limits_told index batch) _ (λ index. tt)
+told_shows index batch (Err body.BadId) shows = then_shows (limits_told index batch) _ (λ index. tt)
 told_shows index batch (Err other) shows = tt
 
-search_shows : (bodies : BodiesShow) (has_index : Bool) (request : Request) → Shows (Route.search_asked has_index request)
+search_shows : (bodies : BodiesShow) (has_index : Bool) (request : Request) → Shows (search_asked has_index request)
 search_shows bodies has_index request =
-    then_shows (Route.index_where has_index request) _ (λ index. then_shows (Route.batch_asked request) _ (λ batch.
-    told_shows index batch (search_of has_index (Route.batch_used batch) request.body) (bodies has_index (Route.batch_used batch) request.body)))
+    then_shows (index_where has_index request) _ (λ index. then_shows (batch_asked request) _ (λ batch.
+    told_shows index batch (search_of has_index (batch_used batch) request.body) (bodies has_index (batch_used batch) request.body)))
 
 -- ---- the other requests search nothing
 
-limit_shows : (index : List ℕ) (name : LimitName) → Shows (Route.limit_told index name)
+limit_shows : (index : List ℕ) (name : LimitName) → Shows (limit_told index name)
 limit_shows index name = either_shows (is_index_name index) (Err (fault.Limit name)) (Err (fault.Limit limit.Index)) tt tt
 
-created_shows : (index : List ℕ) (spec : Result IndexSpec BodyFault) → Shows (Route.create_of index spec)
+created_shows : (index : List ℕ) (spec : Result IndexSpec BodyFault) → Shows (create_of index spec)
 created_shows index (Ok spec) = index_shows index (ask.Create index spec) tt
 created_shows index (Err (body.Limit name)) = limit_shows index name
 created_shows index (Err other) = tt
 
-create_shows : (request : Request) → Shows (Route.create_asked request)
+create_shows : (request : Request) → Shows (create_asked request)
 create_shows request =
-    then_shows (Route.index_in request) _ (λ index. then_shows (refresh_in false None (params_of request.query)) _ (λ refresh.
+    then_shows (index_in request) _ (λ index. then_shows (refresh_in false None (params_of request.query)) _ (λ refresh.
     created_shows index (index_of request.body)))
 
 named_shows : (index id : List ℕ) (asked : Ask) → AskShows asked → Shows (named index id asked)
 named_shows index id asked shows =
     either_shows (is_index_name index) _ (Err (fault.Limit limit.Index)) (either_shows (is_doc_id id) (Ok asked) (Err (fault.Limit limit.Id)) shows tt) tt
 
-doc_shows : (index id : List ℕ) (refresh : Bool) (doc : Result Doc BodyFault) → Shows (Route.put_of index id refresh doc)
+doc_shows : (index id : List ℕ) (refresh : Bool) (doc : Result Doc BodyFault) → Shows (put_of index id refresh doc)
 doc_shows index id refresh (Ok doc) = named_shows index id (ask.Put index id doc refresh) tt
 doc_shows index id refresh (Err fault) = tt
 
-put_shows : (request : Request) → Shows (Route.put_asked request)
+put_shows : (request : Request) → Shows (put_asked request)
 put_shows request =
-    then_shows (Route.index_in request) _ (λ index. then_shows (Route.id_in request) _ (λ id.
+    then_shows (index_in request) _ (λ index. then_shows (id_in request) _ (λ id.
     then_shows (refresh_in true None (params_of request.query)) _ (λ refresh. doc_shows index id refresh (doc_of request.body))))
 
-remove_shows : (request : Request) → Shows (Route.remove_asked request)
+remove_shows : (request : Request) → Shows (remove_asked request)
 remove_shows request =
-    then_shows (Route.index_in request) _ (λ index. then_shows (Route.id_in request) _ (λ id.
-    then_shows (refresh_in true None (params_of request.query)) _ (λ refresh. then_shows (Route.no_body request) _ (λ none.
+    then_shows (index_in request) _ (λ index. then_shows (id_in request) _ (λ id.
+    then_shows (refresh_in true None (params_of request.query)) _ (λ refresh. then_shows (no_body request) _ (λ none.
     named_shows index id (ask.Remove index id refresh) tt))))
 
-bulk_shows : (index : Option (List ℕ)) (request : Request) → Shows (Route.bulk_asked index request)
+bulk_shows : (index : Option (List ℕ)) (request : Request) → Shows (bulk_asked index request)
 bulk_shows index request =
-    then_shows (refresh_in true None (params_of request.query)) _ (λ refresh. then_shows (Route.some_body request) _ (λ some.
-    then_shows (Route.checked (items_of index request.body)) _ (λ items. tt)))
+    then_shows (refresh_in true None (params_of request.query)) _ (λ refresh. then_shows (some_body request) _ (λ some.
+    then_shows (checked (items_of index request.body)) _ (λ items. tt)))
 
-index_bulk_shows : (request : Request) → Shows (Route.index_bulk_asked request)
-index_bulk_shows request = then_shows (Route.index_in request) _ (λ index. bulk_shows (Some index) request)
+index_bulk_shows : (request : Request) → Shows (index_bulk_asked request)
+index_bulk_shows request = then_shows (index_in request) _ (λ index. bulk_shows (Some index) request)
 
-refresh_shows : (request : Request) → Shows (Route.refresh_asked request)
+refresh_shows : (request : Request) → Shows (refresh_asked request)
 refresh_shows request =
-    then_shows (Route.index_in request) _ (λ index. then_shows (refresh_in false None (params_of request.query)) _ (λ refresh.
-    then_shows (Route.no_body request) _ (λ none. index_shows index (ask.Refresh index) tt)))
+    then_shows (index_in request) _ (λ index. then_shows (refresh_in false None (params_of request.query)) _ (λ refresh.
+    then_shows (no_body request) _ (λ none. index_shows index (ask.Refresh index) tt)))
 
-opened_shows : (index : List ℕ) (keep : Option ℕ) → Shows (Route.opening_of index keep)
+opened_shows : (index : List ℕ) (keep : Option ℕ) → Shows (opening_of index keep)
 opened_shows index None = limit_shows index limit.KeepAlive
 opened_shows index (Some keep) = index_shows index (ask.OpenPit index keep) tt
 
-opening_shows : (request : Request) → Shows (Route.opening_asked request)
+opening_shows : (request : Request) → Shows (opening_asked request)
 opening_shows request =
-    then_shows (Route.index_in request) _ (λ index. then_shows (keep_in None (params_of request.query)) _ (λ keep.
-    then_shows (Route.empty_body request) _ (λ none. opened_shows index keep)))
+    then_shows (index_in request) _ (λ index. then_shows (keep_in None (params_of request.query)) _ (λ keep.
+    then_shows (empty_body request) _ (λ none. opened_shows index keep)))
 
-closed_shows : (id : Result ContextId BodyFault) → Shows (Route.closing_of id)
+closed_shows : (id : Result ContextId BodyFault) → Shows (closing_of id)
 closed_shows (Ok id) = tt
 closed_shows (Err fault) = tt
 
-closing_shows : (request : Request) → Shows (Route.closing_asked request)
+closing_shows : (request : Request) → Shows (closing_asked request)
 closing_shows request = then_shows (refresh_in false None (params_of request.query)) _ (λ none. closed_shows (pit_close_of request.body))
 
 -- ---- the routes
 
-built_shows : (taken : Bool) (request : Request) (asked : Result Ask RestFault) → Shows asked → Shows (Route.built taken request asked)
-built_shows taken request asked shows = then_shows (Route.check_built taken request) _ (λ yes. shows)
+built_shows : (taken : Bool) (request : Request) (asked : Result Ask RestFault) → Shows asked → Shows (built taken request asked)
+built_shows taken request asked shows = then_shows (check_built taken request) _ (λ yes. shows)
 
-document_shows : (request : Request) → Shows (Route.doc_asked request)
+document_shows : (request : Request) → Shows (doc_asked request)
 document_shows request =
-    either_shows (Route.puts_or_posts request) _ _ (built_shows true request (Route.put_asked request) (put_shows request))
-    (built_shows (Route.is_method (codes "DELETE") request) request (Route.remove_asked request) (remove_shows request))
+    either_shows (puts_or_posts request) _ _ (built_shows true request (put_asked request) (put_shows request))
+    (built_shows (is_method (codes "DELETE") request) request (remove_asked request) (remove_shows request))
 
-index_place_shows : (bodies : BodiesShow) (request : Request) (named : Place) → Shows (Route.asked_at_index request named)
-index_place_shows bodies request place.Index = built_shows (Route.is_method (codes "PUT") request) request (Route.create_asked request) (create_shows request)
-index_place_shows bodies request place.Doc = document_shows request
-index_place_shows bodies request place.IndexBulk = built_shows (Route.puts_or_posts request) request (Route.index_bulk_asked request) (index_bulk_shows request)
-index_place_shows bodies request place.Refresh = built_shows (Route.gets_or_posts request) request (Route.refresh_asked request) (refresh_shows request)
-index_place_shows bodies request place.IndexSearch = then_shows (Route.check_search true request) _ (λ yes. search_shows bodies true request)
-index_place_shows bodies request place.OpenPit = built_shows (Route.is_method (codes "POST") request) request (Route.opening_asked request) (opening_shows request)
-index_place_shows bodies request other = tt
+index_resource_shows : (bodies : BodiesShow) (request : Request) (named : Resource) → Shows (asked_at_index request named)
+index_resource_shows bodies request resource.Index = built_shows (is_method (codes "PUT") request) request (create_asked request) (create_shows request)
+index_resource_shows bodies request resource.Doc = document_shows request
+index_resource_shows bodies request resource.IndexBulk = built_shows (puts_or_posts request) request (index_bulk_asked request) (index_bulk_shows request)
+index_resource_shows bodies request resource.Refresh = built_shows (gets_or_posts request) request (refresh_asked request) (refresh_shows request)
+index_resource_shows bodies request resource.IndexSearch = then_shows (check_search true request) _ (λ yes. search_shows bodies true request)
+index_resource_shows bodies request resource.OpenPit = built_shows (is_method (codes "POST") request) request (opening_asked request) (opening_shows request)
+index_resource_shows bodies request other = tt
 
-own_shows : (bodies : BodiesShow) (request : Request) (named : Place) → Shows (Route.of_index request named)
+own_shows : (bodies : BodiesShow) (request : Request) (named : Resource) → Shows (of_index request named)
 own_shows bodies request named =
-    either_shows (Route.is_own_word (part 1 request.path)) (Err fault.NotBuilt) (Route.asked_at_index request named) tt (index_place_shows bodies request named)
+    either_shows (is_own_word (part 1 request.path)) (Err fault.NotBuilt) (asked_at_index request named) tt (index_resource_shows bodies request named)
 
-place_shows : (bodies : BodiesShow) (request : Request) (named : Option Place) → Shows (Route.asked_at request named)
-place_shows bodies request None = tt
-place_shows bodies request (Some place.Bulk) = built_shows (Route.puts_or_posts request) request (Route.bulk_asked None request) (bulk_shows None request)
-place_shows bodies request (Some place.Search) = then_shows (Route.check_search false request) _ (λ yes. search_shows bodies false request)
-place_shows bodies request (Some place.ClosePit) = built_shows (Route.is_method (codes "DELETE") request) request (Route.closing_asked request) (closing_shows request)
-place_shows bodies request (Some other) = own_shows bodies request other
+resource_shows : (bodies : BodiesShow) (request : Request) (named : Option Resource) → Shows (asked_at request named)
+resource_shows bodies request None = tt
+resource_shows bodies request (Some resource.Bulk) = built_shows (puts_or_posts request) request (bulk_asked None request) (bulk_shows None request)
+resource_shows bodies request (Some resource.Search) = then_shows (check_search false request) _ (λ yes. search_shows bodies false request)
+resource_shows bodies request (Some resource.ClosePit) = built_shows (is_method (codes "DELETE") request) request (closing_asked request) (closing_shows request)
+resource_shows bodies request (Some other) = own_shows bodies request other
 
-behind_shows : (asked : Result Ask RestFault) → Shows (Route.behind_moment asked)
-behind_shows (Ok asked) = tt
-behind_shows (Err (fault.Limit name)) = tt
-behind_shows (Err other) = tt
+moment_shows : (asked : Result Ask RestFault) → Shows (moment_first asked)
+moment_shows (Ok asked) = tt
+moment_shows (Err (fault.Limit name)) = tt
+moment_shows (Err other) = tt
 
 asked_shows : (bodies : BodiesShow) (request : Request) → Shows (asked_of request)
 unfolding asked_of
 asked_shows bodies request =
-    either_shows (is_unreadable request) (Route.behind_moment _) _ (behind_shows _) (place_shows bodies request (place_of request.path))
+    either_shows (is_unreadable request) (moment_first _) _ (moment_shows _) (resource_shows bodies request (resource_of request.path))
 
 -- in the words of the law
 pub searches_show : BodiesShow → PitSearchesShowPlaces

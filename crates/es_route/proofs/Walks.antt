@@ -9,10 +9,11 @@ use Rattle.doc_json.specs.declared.fault.BodyFault.{BodyFault}
 use Rattle.doc_json.specs.declared.fault.BodyFault.TheVariants as bad
 use Rattle.doc_json.specs.Bulks.{item_at}
 use Rattle.reply_json.specs.declared.fault.RestFault.{RestFault}
-use Rattle.es_route.specs.Items.{body_fault, item_and_more, items_from, items_of, onto, read_change, write_of, write_with}
-use Rattle.es_route.specs.Route.{Answers, checked}
+use Rattle.es_route.specs.Limits.{body_fault}
+use Rattle.es_route.specs.Items.{item_and_more, items_from, items_of, onto, read_change, write_of, write_with, checked}
+use Rattle.es_route.specs.Answers.{Answers}
 
--- the fault of the items behind one is that of all
+-- the fault of the items after one is that of all
 checked-onto : (item : BulkItem) (items : Result (List BulkItem) BodyFault) → checked (onto item items) ≡ checked items
 checked-onto item (Ok items) = refl
 checked-onto item (Err fault) = refl
@@ -30,13 +31,13 @@ more_fuel long at (suc fuel) within room = (fuel, refl)
 shorter : (long at next most fuel : ℕ) → long < at + most → most ≡ suc fuel → at < next → long < next + fuel
 shorter long at next most fuel room is on = omega (arith, room, is, on)
 
--- what stands from a place on, by what stands there
-from_place : (index : Option (List ℕ)) (body : List ℕ) (at most fuel : ℕ) (found : Result (Option BulkItem) BodyFault) → most ≡ suc fuel → item_at index body at ≡ found
+-- what stands from a byte on, by what stands there
+from_byte : (index : Option (List ℕ)) (body : List ℕ) (at most fuel : ℕ) (found : Result (Option BulkItem) BodyFault) → most ≡ suc fuel → item_at index body at ≡ found
     → items_from most index body at ≡ item_and_more (items_from fuel index body) found
-from_place index body at most fuel found is there =
+from_byte index body at most fuel found is there =
     ap (λ (m : ℕ). items_from m index body at) is ∙ ap (item_and_more (items_from fuel index body)) there
 
--- the fault of the items from a place on is that of all
+-- the fault of the items from a byte on is that of all
 pub record Walked (index : Option (List ℕ)) (body : List ℕ) (at : ℕ) : Type 0 where
   pub most : ℕ
   pub room : length body < at + most
@@ -55,19 +56,19 @@ walk_next index body at item there on within w =
       most = fuel.0;
       room = shorter (length body) at item.next w.most fuel.0 w.room fuel.1 on;
       within = within;
-      left = w.left ∙ ap checked (from_place index body at w.most fuel.0 (Ok (Some item)) fuel.1 there) ∙ checked-onto item (items_from fuel.0 index body item.next);
+      left = w.left ∙ ap checked (from_byte index body at w.most fuel.0 (Ok (Some item)) fuel.1 there) ∙ checked-onto item (items_from fuel.0 index body item.next);
     }
 
 -- at the end of the body, or at a fault
 pub walk_ends : (index : Option (List ℕ)) (body : List ℕ) (at : ℕ) → item_at index body at ≡ Ok None → Walked index body at → checked (items_of index body) ≡ Ok tt
 walk_ends index body at there w =
     let fuel = more_fuel (length body) at w.most w.within w.room in
-    w.left ∙ ap checked (from_place index body at w.most fuel.0 (Ok None) fuel.1 there)
+    w.left ∙ ap checked (from_byte index body at w.most fuel.0 (Ok None) fuel.1 there)
 
 pub walk_fails : (index : Option (List ℕ)) (body : List ℕ) (at : ℕ) (fault : BodyFault) → item_at index body at ≡ Err fault → Walked index body at → checked (items_of index body) ≡ Err (body_fault fault)
 walk_fails index body at fault there w =
     let fuel = more_fuel (length body) at w.most w.within w.room in
-    w.left ∙ ap checked (from_place index body at w.most fuel.0 (Err fault) fuel.1 there)
+    w.left ∙ ap checked (from_byte index body at w.most fuel.0 (Err fault) fuel.1 there)
 
 -- such a fault is what is told
 pub fault_told : {A : Type 0} (fault : BodyFault) (asked : Result A RestFault) → asked ≡ Err (body_fault fault) → Answers (Err (body_fault fault)) asked
@@ -76,7 +77,7 @@ fault_told bad.Shape asked is = is
 fault_told (bad.Limit name) asked is = is
 fault_told bad.BadId asked is = is
 
--- these items stand from a place on
+-- these items stand from a byte on
 pub record Ahead (index : Option (List ℕ)) (body : List ℕ) (at : ℕ) (left : List BulkItem) : Type 0 where
   pub most : ℕ
   pub room : length body < at + most
@@ -91,7 +92,7 @@ pub ahead_next : (index : Option (List ℕ)) (body : List ℕ) (at : ℕ) (left 
     → Ahead index body at left → (rest : List BulkItem) × (left ≡ item ∷ rest) × Ahead index body item.next rest
 ahead_next index body at left item there on within w =
     let fuel = more_fuel (length body) at w.most w.within w.room in
-    let rest = onto-ok item (items_from fuel.0 index body item.next) left (sym (from_place index body at w.most fuel.0 (Ok (Some item)) fuel.1 there) ∙ w.are) in
+    let rest = onto-ok item (items_from fuel.0 index body item.next) left (sym (from_byte index body at w.most fuel.0 (Ok (Some item)) fuel.1 there) ∙ w.are) in
     (rest.0, rest.2, record { most = fuel.0; room = shorter (length body) at item.next w.most fuel.0 w.room fuel.1 on; within = within; are = rest.1 })
 
 pub same_items : (r : Result (List BulkItem) BodyFault) (a b : List BulkItem) → r ≡ Ok a → r ≡ Ok b → a ≡ b
@@ -103,12 +104,12 @@ none_left r left a b = cc
 pub ahead_ends : (index : Option (List ℕ)) (body : List ℕ) (at : ℕ) (left : List BulkItem) → item_at index body at ≡ Ok None → Ahead index body at left → left ≡ []
 ahead_ends index body at left there w =
     let fuel = more_fuel (length body) at w.most w.within w.room in
-    none_left (items_from w.most index body at) left (from_place index body at w.most fuel.0 (Ok None) fuel.1 there) w.are
+    none_left (items_from w.most index body at) left (from_byte index body at w.most fuel.0 (Ok None) fuel.1 there) w.are
 
 pub ahead_never_fails : (index : Option (List ℕ)) (body : List ℕ) (at : ℕ) (left : List BulkItem) (fault : BodyFault) → item_at index body at ≡ Err fault → Ahead index body at left → ⊥
 ahead_never_fails index body at left fault there w =
     let fuel = more_fuel (length body) at w.most w.within w.room in
-    let e : Err fault ≡ Ok left = sym (from_place index body at w.most fuel.0 (Err fault) fuel.1 there) ∙ w.are in
+    let e : Err fault ≡ Ok left = sym (from_byte index body at w.most fuel.0 (Err fault) fuel.1 there) ∙ w.are in
     absurd (cc)
 
 name_by : (name id : Bool) (x : Event) (a b : RestFault) (event : Event) → (if name then (if id then Ok x else Err a) else Err b) ≡ Ok event → name ≡ true

@@ -1,10 +1,7 @@
 -- The items of a bulk, and what each asks for (Elasticsearch, "Bulk").
-use Rattle.std.specs.Prelude.{ℕ, zero, suc, if◌then◌else◌, List, [], ◌∷◌, length, Option, Some, None, Result, Ok, Err}
-use Rattle.es_types.specs.Name.{is_doc_id, is_index_name}
+use Rattle.std.specs.Prelude.{ℕ, zero, suc, List, [], ◌∷◌, length, Option, Some, None, Result, Ok, Err}
 use Rattle.es_types.specs.declared.doc.Doc.{Doc}
-use Rattle.es_types.specs.declared.limit.LimitName.TheVariants as limit
 use Rattle.doc_json.specs.declared.fault.BodyFault.{BodyFault}
-use Rattle.doc_json.specs.declared.fault.BodyFault.TheVariants as body
 use Rattle.doc_json.specs.declared.bulk.BulkItem.{BulkItem}
 use Rattle.doc_json.specs.declared.bulk.BulkChange.{BulkChange}
 use Rattle.doc_json.specs.declared.bulk.BulkChange.TheVariants.{Put, Remove}
@@ -16,20 +13,7 @@ use Rattle.list_machine.specs.declared.event.Change.TheVariants as change
 use Rattle.list_machine.specs.declared.event.Event.{Event}
 use Rattle.list_machine.specs.declared.event.Event.TheVariants as event
 use Rattle.reply_json.specs.declared.fault.RestFault.{RestFault}
-use Rattle.reply_json.specs.declared.fault.RestFault.TheVariants as fault
-
--- a body's fault as a refusal
-abbrev pub body_fault : BodyFault → RestFault
-body_fault body.NotJson = fault.BadBody
-body_fault body.Shape = fault.BadBody
-body_fault (body.Limit name) = fault.Limit name
-body_fault body.BadId = fault.BadId
-
--- a name and an id that break their rules are told in this order
-abbrev pub named : {A : Type 0} → List ℕ → List ℕ → A → Result A RestFault
-named index id asked = if is_index_name index then (if is_doc_id id then Ok asked else Err (fault.Limit limit.Id)) else Err (fault.Limit limit.Index)
-
--- ---- the items of a body
+use Rattle.es_route.specs.Limits.{body_fault, named}
 
 abbrev pub onto : BulkItem → Result (List BulkItem) BodyFault → Result (List BulkItem) BodyFault
 onto item (Ok items) = Ok (item ∷ items)
@@ -40,7 +24,7 @@ item_and_more more (Err fault) = Err fault
 item_and_more more (Ok None) = Ok []
 item_and_more more (Ok (Some item)) = onto item (more item.next)
 
--- the items from a place of the body on, at most so many
+-- the items from a byte of the body on, at most so many
 abbrev pub items_from : ℕ → Option (List ℕ) → List ℕ → ℕ → Result (List BulkItem) BodyFault
 items_from zero index body at = Ok []
 items_from (suc most) index body at = item_and_more (items_from most index body) (item_at index body at)
@@ -53,7 +37,10 @@ abbrev pub items_in : Result (List BulkItem) BodyFault → List BulkItem
 items_in (Ok items) = items
 items_in (Err fault) = []
 
--- ---- what an item asks for
+-- the items of a bulk, or the fault of the first that is none
+abbrev pub checked : Result (List BulkItem) BodyFault → Result (Unit {0}) RestFault
+checked (Ok items) = Ok tt
+checked (Err fault) = Err (body_fault fault)
 
 abbrev pub put_change : Result Doc BodyFault → Result Change RestFault
 put_change (Ok doc) = Ok (change.Put doc)

@@ -1,4 +1,13 @@
+pub mod Answers
 pub mod Moments
+pub mod Resources
 pub mod Paths
+pub mod Params
+pub mod Limits
+pub mod Bodies
+pub mod Methods
 pub mod Items
+pub mod Documents
+pub mod Pits
+pub mod Searches
 pub mod Route

@@ -1,56 +1,10 @@
--- Which route a path has, and what its parts and its query say (RFC 3986; the URL Standard's forms).
-use Rattle.std.specs.Prelude.{ℕ, zero, suc, ◌+◌, ◌==◌, ◌||◌, ◌&&◌, not, nat_le, Bool, true, false, bytes_eq, if◌then◌else◌, List, [], ◌∷◌, length, map, take, drop, is_some, Option, Some, None, option_map, position, Result, Ok, Err, codes}
+-- What the parts of a path say (RFC 3986).
+use Rattle.std.specs.Prelude.{ℕ, zero, suc, ◌+◌, ◌==◌, Bool, false, if◌then◌else◌, List, [], ◌∷◌, take, drop, Option, Some, None, position, Result, Ok, Err, codes}
 use Rattle.std.specs.Str.{is_utf8}
-use Rattle.std.specs.Str.Lossy.{utf8_lossy}
-use Rattle.std.specs.Char.{is_ascii_digit}
-use Rattle.std.specs.List.{list_all, list_any}
-use Rattle.std.specs.Str.Parse.{digits_value}
-use Rattle.es_types.specs.declared.limits.TheConstants.{USUAL_BATCH}
-use Rattle.form_urlencoded.specs.Form.{decode, raw_pairs}
 use Rattle.percent_encoding.specs.Percent.{percent_decode}
-use Rattle.matchit.specs.Rows.{RowsOf}
-use Rattle.matchit.specs.Router.{RouteOf, route_from}
-use Rattle.matchit.specs.Order.{placed}
-use Rattle.matchit.specs.Seek.{first}
-use Rattle.matchit.specs.Route.{Scan, parse_route}
-use Rattle.matchit.specs.declared.error.InsertError.{InsertError}
-use Rattle.search_json.specs.Pits.{context_keep}
 use Rattle.reply_json.specs.declared.fault.RestFault.{RestFault}
 use Rattle.reply_json.specs.declared.fault.RestFault.TheVariants.{BadParam}
-use Rattle.es_route.specs.declared.paths.Place.{Place}
-use Rattle.es_route.specs.declared.paths.Place.TheVariants.{Index, Doc, Bulk, IndexBulk, Refresh, OpenPit, ClosePit, Search, IndexSearch}
-use Rattle.es_route.specs.declared.params.Param.{Param}
-
--- ---- routes
-
-abbrev pub Routes : Type 0
-Routes = RowsOf (RouteOf Place)
-
-abbrev pub read_route : Result Scan InsertError → Place → Routes → Routes
-read_route (Ok scan) place routes = placed (scan.pattern, route_from scan place) routes
-read_route (Err error) place routes = routes
-
--- the routes of a router with one more
-abbrev pub with_route : List ℕ → Place → Routes → Routes
-with_route route place routes = read_route (parse_route route) place routes
-
-unfoldable pub all_routes : Routes
-all_routes =
-    with_route (codes "/{index}/_search") IndexSearch
-    (with_route (codes "/_search") Search
-    (with_route (codes "/_pit") ClosePit
-    (with_route (codes "/{index}/_pit") OpenPit
-    (with_route (codes "/{index}/_refresh") Refresh
-    (with_route (codes "/{index}/_bulk") IndexBulk
-    (with_route (codes "/_bulk") Bulk
-    (with_route (codes "/{index}/_doc/{id}") Doc
-    (with_route (codes "/{index}") Index []))))))))
-
--- the route that a path has, as it is sent: text goes before a parameter, which is a whole part of the path
-unfoldable pub place_of : List ℕ → Option Place
-place_of path = option_map (λ (route : RouteOf Place). route.value) (first all_routes path)
-
--- ---- the parts of a path
+use Rattle.http_wire.specs.declared.request.Request.{Request}
 
 abbrev pub slash : ℕ
 slash = 47
@@ -59,84 +13,26 @@ abbrev pub up_to : Option ℕ → List ℕ → List ℕ
 up_to None path = path
 up_to (Some at) path = take at path
 
-abbrev pub behind : Option ℕ → List ℕ → List ℕ
-behind None path = []
-behind (Some at) path = drop (at + 1) path
+abbrev pub beyond : Option ℕ → List ℕ → List ℕ
+beyond None path = []
+beyond (Some at) path = drop (at + 1) path
 
--- the bytes behind so many slashes, up to the next one
+-- the bytes after so many slashes, up to the next one
 abbrev pub part : ℕ → List ℕ → List ℕ
 part zero path = up_to (position (λ b. b == slash) path) path
-part (suc count) path = part count (behind (position (λ b. b == slash) path) path)
+part (suc count) path = part count (beyond (position (λ b. b == slash) path) path)
 
 -- the part without its escapes, where that is a text; else the fault names the parameter
 abbrev pub decoded : List ℕ → List ℕ → Result (List ℕ) RestFault
 decoded name part = if is_utf8 (percent_decode part) then Ok (percent_decode part) else Err (BadParam name)
 
--- ---- a query
+abbrev pub index_in : Request → Result (List ℕ) RestFault
+index_in request = decoded (codes "index") (part 1 request.path)
 
--- the names and values of a query in turn; what is no text has U+FFFD in place of what is none
-abbrev pub params_of : List ℕ → List Param
-params_of query = map (λ (pair : List ℕ × List ℕ). let p : Param = record { name = utf8_lossy (decode pair.0); value = utf8_lossy (decode pair.1) } in p) (raw_pairs query)
+abbrev pub id_in : Request → Result (List ℕ) RestFault
+id_in request = decoded (codes "id") (part 3 request.path)
 
-abbrev pub has_param : List ℕ → List Param → Bool
-has_param name params = list_any (λ param. bytes_eq param.name name) params
-
--- whether a value of `refresh` asks for a refresh
-abbrev pub refresh_value : List ℕ → Option Bool
-refresh_value value =
-    if bytes_eq value [] || bytes_eq value (codes "true") || bytes_eq value (codes "wait_for") then Some true
-    else (if bytes_eq value (codes "false") then Some false else None)
-
-abbrev pub value_or_fault : {A : Type 0} → Option A → (A → Result A RestFault) → RestFault → Result A RestFault
-value_or_fault None more fault = Err fault
-value_or_fault (Some value) more fault = more value
-
-abbrev pub unless_given : Option Bool → Option Bool → Option Bool
-unless_given None value = value
-unless_given (Some given) value = None
-
-abbrev pub given_or_false : Option Bool → Bool
-given_or_false None = false
-given_or_false (Some value) = value
-
--- Whether these parameters ask for a refresh, where `refresh` is taken, at most once: the first that isn't taken is
--- a fault. None asks for it by being left out.
-abbrev pub refresh_in : Bool → Option Bool → List Param → Result Bool RestFault
-refresh_in taken given [] = Ok (given_or_false given)
-refresh_in taken given (param ∷ params) =
-    if taken && bytes_eq param.name (codes "refresh")
-    then value_or_fault (unless_given given (refresh_value param.value)) (λ value. refresh_in taken (Some value) params) (BadParam param.name)
-    else Err (BadParam param.name)
-
--- 1 to 9 decimal digits
-abbrev pub are_digits : List ℕ → Bool
-are_digits text = nat_le 1 (length text) && (nat_le (length text) 9 && list_all is_ascii_digit text)
-
--- the number that such digits are
-unfoldable pub batch_value : List ℕ → Option ℕ
-batch_value text = if are_digits text then Some (digits_value 10 text) else None
-
-abbrev pub given_or_usual : Option ℕ → ℕ
-given_or_usual None = USUAL_BATCH
-given_or_usual (Some batch) = batch
-
--- How many shards these parameters say make a batch, where `batched_reduce_size` is taken, at most once: the first that isn't
--- taken is a fault.
-abbrev pub batch_in : Option ℕ → List Param → Result ℕ RestFault
-batch_in given [] = Ok (given_or_usual given)
-batch_in given (param ∷ params) =
-    if not (is_some given) && bytes_eq param.name (codes "batched_reduce_size")
-    then value_or_fault (batch_value param.value) (λ batch. batch_in (Some batch) params) (BadParam param.name)
-    else Err (BadParam param.name)
-
-abbrev pub keep_or_wanting : Option (Option ℕ) → Result (Option ℕ) RestFault
-keep_or_wanting None = Err (BadParam (codes "keep_alive"))
-keep_or_wanting (Some keep) = Ok keep
-
--- How long these parameters say that a point in time is kept, where it may be kept so long: `keep_alive` is needed, once. The first
--- that isn't taken is a fault, and one that is wanting comes behind all.
-abbrev pub keep_in : Option (Option ℕ) → List Param → Result (Option ℕ) RestFault
-keep_in given [] = keep_or_wanting given
-keep_in given (param ∷ params) =
-    if not (is_some given) && bytes_eq param.name (codes "keep_alive") then keep_in (Some (context_keep param.value)) params
-    else Err (BadParam param.name)
+-- the service's own words begin with a low line
+abbrev pub is_own_word : List ℕ → Bool
+is_own_word [] = false
+is_own_word (b ∷ bytes) = b == 95

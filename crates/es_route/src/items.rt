@@ -1,39 +1,17 @@
-ghost use Rattle.std.specs.Prelude.{◌≡◌, IfOk, option_map};
+//! The items of a bulk, and what each asks for.
+ghost use Rattle.std.specs.Prelude.{IfOk, option_map};
 ghost use Rattle.list_machine.specs.declared.event.Limits.{Limits};
 ghost use Rattle.list_machine.specs.Run.{History};
 ghost use Rattle.list_machine.specs.Serving.{IsAskable};
-ghost use Rattle.es_route.specs.Items.{PutsObjectChange, body_fault, items_of, named, read_change, write_of};
-ghost use Rattle.es_route.specs.Route.{Answers, checked};
+ghost use Rattle.es_route.specs.Answers.{Answers};
+ghost use Rattle.es_route.specs.Items.{PutsObjectChange, checked, items_of, read_change, write_of};
 
-use doc_json::{BodyFault, BulkChange, BulkItem, next_bulk, read_doc};
-use es_types::{Copied, DocId, Fail, IndexName, LimitName, Text};
+use crate::limits::{body_fault, named};
+use doc_json::{BulkChange, BulkItem, next_bulk, read_doc};
+use es_types::{Copied, Fail, Text};
 use list_machine::{Change, Event};
 use reply_json::RestFault;
 use std::alloc::Global;
-
-/// A body's fault as a refusal.
-pub fn body_fault(fault: BodyFault) -> RestFault
-    ensures { result ≡ body_fault fault }
-{
-    match fault {
-        BodyFault::NotJson | BodyFault::Shape => RestFault::BadBody,
-        BodyFault::Limit(name) => RestFault::Limit(name),
-        BodyFault::BadId => RestFault::BadId,
-    }
-}
-
-/// The name of an index and the id of a document, or the first of them that breaks its rule.
-pub fn named(index: Text, id: Text) -> Result<(IndexName, DocId), RestFault>
-    ensures { result ≡ named index id (index, id) }
-{
-    match IndexName::make(index) {
-        Ok(index) => match DocId::make(id) {
-            Ok(id) => Ok((index, id)),
-            Err(_) => Err(RestFault::Limit(LimitName::Id)),
-        },
-        Err(_) => Err(RestFault::Limit(LimitName::Index)),
-    }
-}
 
 /// Whether a body is the items of a bulk. Their document lines aren't read yet.
 pub fn check_items(alloc: Global, index: Option<&Text>, body: &[u8]) -> Result<(), RestFault>

@@ -1,3 +1,4 @@
+//! What is true of each search of a point in time.
 ghost use Rattle.es_route.specs.Route.{PitSearchesShowPlaces};
 
 use search_json::pit_bodies_show_places;

@@ -3,16 +3,23 @@
 #![tactic(auto)]
 
 mod ask;
+mod bodies;
+mod documents;
 mod items;
 mod law;
+mod limits;
+mod methods;
 mod moment;
 mod params;
 mod paths;
-mod pit;
-mod search;
+mod pits;
+mod resource;
+mod routing;
+mod searches;
 
-pub use ask::{Ask, route, routed};
+pub use ask::Ask;
 pub use items::write_of;
 pub use law::pit_searches_show_places;
 pub use moment::told_moment;
-pub use paths::{Place, routes};
+pub use resource::{Resource, routes};
+pub use routing::{route, routed};

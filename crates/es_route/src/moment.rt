@@ -1,3 +1,4 @@
+//! The moments that requests hand in.
 ghost use Rattle.std.specs.Prelude.{◌≡◌};
 ghost use Rattle.es_route.specs.Moments.{is_unreadable, moment_of, told_moment};
 

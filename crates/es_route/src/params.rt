@@ -1,10 +1,12 @@
-ghost use Rattle.std.specs.Prelude.{◌≡◌, IfOk};
-ghost use Rattle.es_route.specs.Paths.{are_digits, batch_in, batch_value, has_param, keep_in, params_of, refresh_in, refresh_value, unless_given};
-ghost use Rattle.es_route.specs.Route.{Answers};
+//! What the query of a request says.
+ghost use Rattle.std.specs.Prelude.{◌≡◌, IfOk, None};
+ghost use Rattle.es_route.specs.Answers.{Answers};
+ghost use Rattle.es_route.specs.Params.{are_digits, batch_in, batch_value, has_param, keep_in, params_of, refresh_in, refresh_value, unless_given};
 
 use doc_json::all_digits;
 use es_types::{Copied, KeepAlive, NoMemory, Text, USUAL_BATCH};
 use form_urlencoded::parse;
+use http_wire::Request;
 use reply_json::RestFault;
 use search_json::context_keep;
 use std::alloc::Global;
@@ -58,9 +60,9 @@ fn unless_given(given: Option<bool>, value: Option<bool>) -> Option<bool>
     }
 }
 
-/// Whether the parameters ask for a refresh, where `refresh` is taken, at most once and if not `given` before. The
-/// first that isn't taken is a fault.
-pub fn refresh_in(
+// Whether the parameters ask for a refresh, where `refresh` is taken, at most once and if not `given` before. The
+// first that isn't taken is a fault.
+fn refresh_in(
     alloc: Global,
     taken: bool,
     given: Option<bool>,
@@ -79,13 +81,21 @@ pub fn refresh_in(
     Err(RestFault::BadParam(param.name.copy(alloc)?))
 }
 
+/// Whether the query asks for a refresh, where it may.
+pub fn refresh_of(alloc: Global, taken: bool, request: &Request) -> Result<bool, RestFault>
+    ensures { Answers result (refresh_in taken None (params_of request.now.query)) }
+{
+    let params = params_of(alloc, request.query.as_slice())?;
+    refresh_in(alloc, taken, None, &params)
+}
+
 fn are_digits(text: &[u8]) -> bool
     ensures { result ≡ are_digits text.now }
 {
     !text.is_empty() && text.len() <= 9 && all_digits(text)
 }
 
-#[tactic(auto, unfolding(crate::specs::Paths::batch_value))]
+#[tactic(auto, unfolding(crate::specs::Params::batch_value))]
 fn batch_value(text: &str) -> Option<u32>
     ensures { result ≡ batch_value text.now }
 {
@@ -115,7 +125,7 @@ pub fn batch_in(alloc: Global, given: Option<u32>, params: &[Param]) -> Result<u
 }
 
 /// How long the parameters say that a point in time is kept, where it may be kept so long: `keep_alive` is needed, once, and not if
-/// it was `given` before. The first that isn't taken is a fault, and one that is wanting comes behind all.
+/// it was `given` before. The first that isn't taken is a fault, and one that is missing comes after all.
 pub fn keep_in(
     alloc: Global,
     given: Option<Option<KeepAlive>>,

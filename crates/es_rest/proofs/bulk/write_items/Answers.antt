@@ -1,4 +1,4 @@
--- One item behind the other.
+-- One item after the other.
 use Rattle.std.proofs.Common.{refl, ap, subst, ◌∙◌, ℕ, List, ◌∷◌, option_map, Ok}
 use Rattle.std.proofs.lemmas.Result.{err_from_is_err_and}
 use Rattle.list_machine.specs.declared.event.Limits.{Limits}

@@ -1,4 +1,4 @@
--- The response with its text, or the one that memory is wanting.
+-- The response with its text, or the one that memory ran out.
 use Rattle.es_rest.proofs.Exchanges.{answered_by}
 use Rattle.es_rest.proofs.connection.answer.Goals as goal
 

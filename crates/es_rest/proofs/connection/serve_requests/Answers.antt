@@ -3,7 +3,8 @@ use Rattle.std.proofs.Common.{refl, ◌∙◌, []}
 use Rattle.es_types.specs.declared.limits.TheConstants.{CONNECTION_BYTES}
 use Rattle.http_wire.specs.Stream.{Buffered}
 use Rattle.http_wire.proofs.Flow.{unchanged}
-use Rattle.es_rest.proofs.Progress.{starts, goes_on, failed, ended, closed, next_wants}
+use Rattle.es_rest.proofs.Ends.{failed, ended, closed, next_wants}
+use Rattle.es_rest.proofs.Progress.{starts, goes_on}
 use Rattle.es_rest.proofs.connection.serve_requests.Goals as goal
 
 pub requests-init : goal.requests-init

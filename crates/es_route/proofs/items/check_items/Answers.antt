@@ -1,7 +1,8 @@
 -- Each item is a byte long at least, so that all are gone through.
 use Rattle.std.proofs.Common.{◌≡◌, Err, Ok, ap, option_map, subst, sym, ◌∙◌}
-use Rattle.es_route.specs.Items.{body_fault, items_of}
-use Rattle.es_route.specs.Route.{Answers, checked}
+use Rattle.es_route.specs.Limits.{body_fault}
+use Rattle.es_route.specs.Items.{items_of, checked}
+use Rattle.es_route.specs.Answers.{Answers}
 use Rattle.es_route.proofs.Walks.{fault_told, walk_fails, walk_next, walk_starts}
 use Rattle.es_route.proofs.items.check_items.Goals as goal
 

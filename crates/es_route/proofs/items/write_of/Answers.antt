@@ -3,8 +3,9 @@ use Rattle.std.proofs.Common.{sym, subst, List, ℕ, Result, Err}
 use Rattle.list_machine.specs.declared.event.Change.{Change}
 use Rattle.list_machine.specs.declared.event.Event.TheVariants.{Write}
 use Rattle.reply_json.specs.declared.fault.RestFault.{RestFault}
-use Rattle.es_route.specs.Items.{named, write_with}
-use Rattle.es_route.specs.Route.{Answers}
+use Rattle.es_route.specs.Limits.{named}
+use Rattle.es_route.specs.Items.{write_with}
+use Rattle.es_route.specs.Answers.{Answers}
 use Rattle.es_route.proofs.Asks.{answers_is, named_failed}
 use Rattle.es_route.proofs.items.write_of.Goals as goal
 

@@ -1,7 +1,7 @@
 -- What `parse` gives is the number of the digits.
 use Rattle.std.proofs.Common.{ap, sym, ◌∙◌}
 use Rattle.std.specs.Result.{result_ok}
-use Rattle.es_route.specs.Paths.{are_digits}
+use Rattle.es_route.specs.Params.{are_digits}
 use Rattle.es_route.proofs.Numerals.{digits_read}
 use Rattle.es_route.proofs.params.batch_value.Goals as goal
 

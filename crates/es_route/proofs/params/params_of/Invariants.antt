@@ -1,7 +1,7 @@
 -- The parameters so far, and those that are left.
 use Rattle.std.proofs.Common.{◌≡◌, ◌++◌, map}
 use Rattle.form_urlencoded.specs.Parse.{pairs_left}
-use Rattle.es_route.specs.Paths.{params_of}
+use Rattle.es_route.specs.Params.{params_of}
 use Rattle.es_route.proofs.Queries.{param_of}
 use Rattle.es_route.proofs.params.params_of.Given as goal
 

@@ -1,8 +1,8 @@
 -- One route after the other.
 use Rattle.std.proofs.Common.{◌∙◌, ap, codes}
-use Rattle.es_route.specs.declared.paths.Place.TheVariants.{Index, Doc, Bulk, IndexBulk, Refresh, OpenPit, ClosePit, Search, IndexSearch}
-use Rattle.es_route.specs.Paths.{all_routes, with_route}
-use Rattle.es_route.proofs.paths.routes.Goals as goal
+use Rattle.es_route.specs.declared.resource.Resource.TheVariants.{Index, Doc, Bulk, IndexBulk, Refresh, OpenPit, ClosePit, Search, IndexSearch}
+use Rattle.es_route.specs.Resources.{all_routes, with_route}
+use Rattle.es_route.proofs.resource.routes.Goals as goal
 
 pub returns : goal.returns
 unfolding all_routes

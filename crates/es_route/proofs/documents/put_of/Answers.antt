@@ -4,12 +4,12 @@ use Rattle.es_types.specs.declared.doc.Doc.{Doc}
 use Rattle.std.specs.Prelude.{Result}
 use Rattle.doc_json.specs.declared.fault.BodyFault.{BodyFault}
 use Rattle.es_route.specs.declared.ask.Ask.TheVariants as ask
-use Rattle.es_route.specs.Items.{named}
-use Rattle.es_route.specs.Route.{put_of}
+use Rattle.es_route.specs.Limits.{named}
+use Rattle.es_route.specs.Documents.{put_of}
 use Rattle.doc_json.specs.Documents.{doc_of}
 use Rattle.es_route.proofs.Objects.{doc_object}
 use Rattle.es_route.proofs.Asks.{answers_is, answers_same, named_failed}
-use Rattle.es_route.proofs.ask.put_of.Goals as goal
+use Rattle.es_route.proofs.documents.put_of.Goals as goal
 
 pub returns-in_err-index-in-Ok-clause-answer : goal.returns-in_err-index-in-Ok-clause-answer
 returns-in_err-index-in-Ok-clause-answer c =

@@ -12,8 +12,8 @@ use Rattle.doc_json.specs.declared.fault.BodyFault.TheVariants as body
 use Rattle.doc_json.specs.declared.index.IndexSpec.{IndexSpec}
 use Rattle.doc_json.specs.Indexes.{filled, index_in, index_of, limited, mapped, mapping_of, properties_of, shards_of}
 use Rattle.doc_json.specs.Json.{data_of, form_then, is_form, json_then}
-use Rattle.es_route.specs.Items.{body_fault}
-use Rattle.es_route.specs.Route.{checked}
+use Rattle.es_route.specs.Limits.{body_fault}
+use Rattle.es_route.specs.Items.{checked}
 
 -- 1 to 1,024 shards
 abbrev HasShards : IndexSpec → Type 0
@@ -38,17 +38,17 @@ limited_shards : (shards : ℕ) (properties : Members) (spec : IndexSpec) → li
 unfolding limited
 limited_shards shards properties spec is = limited_by shards (nat_le 1 shards) (nat_le shards 1024) (mapping_of properties) spec refl refl is
 
--- and so behind the properties
+-- and so after the properties
 properties_shards : (shards : ℕ) (properties : Option Members) (spec : IndexSpec) → form_then properties (limited shards) ≡ Ok spec → HasShards spec
 properties_shards shards None spec is = absurd (let e : Err body.Shape ≡ Ok spec = is in cc)
 properties_shards shards (Some properties) spec is = limited_shards shards properties spec is
 
--- and behind the settings
+-- and after the settings
 settings_shards : (shards : Option ℕ) (properties : Option Members) (spec : IndexSpec) → form_then shards (λ n. form_then properties (limited n)) ≡ Ok spec → HasShards spec
 settings_shards None properties spec is = absurd (let e : Err body.Shape ≡ Ok spec = is in cc)
 settings_shards (Some n) properties spec is = properties_shards n properties spec is
 
--- and behind the form
+-- and after the form
 form_shards : (form : Bool) (shards : Option ℕ) (properties : Option Members) (spec : IndexSpec)
     → (if form then form_then shards (λ n. form_then properties (limited n)) else Err body.Shape) ≡ Ok spec → HasShards spec
 form_shards true shards properties spec is = settings_shards shards properties spec is

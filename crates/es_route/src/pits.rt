@@ -1,15 +1,18 @@
+//! What requests for points in time ask for.
 ghost use Rattle.std.specs.Prelude.{◌≡◌, None, IfOk};
-ghost use Rattle.doc_json.specs.Json.{data_of};
 ghost use Rattle.search_json.specs.Pits.{pit_close_of};
-ghost use Rattle.es_route.specs.Paths.{keep_in, params_of};
-ghost use Rattle.es_route.specs.Route.{Answers, AsksSound, closing_asked, closing_of, empty_body, is_empty_object, opening_asked, opening_of, pit_number};
+ghost use Rattle.es_route.specs.Answers.{Answers};
+ghost use Rattle.es_route.specs.Params.{keep_in, params_of};
+ghost use Rattle.es_route.specs.Pits.{closing_asked, closing_of, opening_asked, opening_of, pit_number};
+ghost use Rattle.es_route.specs.Route.{AsksSound};
 
-use crate::ask::{Ask, index_in, is_blank, limit_told, named_index, refresh_of};
-use crate::items::body_fault;
-use crate::params::{keep_in, params_of};
+use crate::ask::Ask;
+use crate::bodies::empty_body;
+use crate::limits::{body_fault, limit_told, named_index};
+use crate::params::{keep_in, params_of, refresh_of};
+use crate::paths::index_in;
 use ctx_ids::{ContextId, Kind};
-use doc_json::{is_form, read_data};
-use es_types::{Fail, KeepAlive, LimitName, NoMemory, Text};
+use es_types::{Fail, KeepAlive, LimitName, Text};
 use http_wire::Request;
 use reply_json::RestFault;
 use search_json::read_pit_close;
@@ -21,27 +24,6 @@ fn keep_of(alloc: Global, request: &Request) -> Result<Option<KeepAlive>, RestFa
 {
     let params = params_of(alloc, request.query.as_slice())?;
     keep_in(alloc, None, &params)
-}
-
-fn is_empty_object(alloc: Global, body: &[u8]) -> Result<bool, NoMemory>
-    ensures { IfOk result (λ is. is ≡ is_empty_object (data_of body.now)) }
-{
-    match read_data(alloc, body)? {
-        Some(value) => Ok(is_form(&value, &[])),
-        None => Ok(false),
-    }
-}
-
-// No body, or an object without members.
-fn empty_body(alloc: Global, request: &Request) -> Result<bool, RestFault>
-    ensures { Answers result (empty_body request.now) }
-{
-    let body = request.body.as_slice();
-    if is_blank(body) || is_empty_object(alloc, body)? {
-        Ok(true)
-    } else {
-        Err(RestFault::BadBody)
-    }
 }
 
 fn opening_of(index: Text, keep: Option<KeepAlive>) -> Result<Ask, RestFault>
@@ -64,7 +46,7 @@ pub fn opening_asked(alloc: Global, request: &Request) -> Result<Ask, RestFault>
 {
     let index = index_in(alloc, request)?;
     let keep = keep_of(alloc, request)?;
-    let _ = empty_body(alloc, request)?;
+    empty_body(alloc, request)?;
     opening_of(index, keep)
 }
 
@@ -96,6 +78,6 @@ pub fn closing_asked(alloc: Global, request: &Request) -> Result<Ask, RestFault>
     ensures answer { Answers result (closing_asked request.now) }
     ensures sound { IfOk result AsksSound }
 {
-    let _ = refresh_of(alloc, false, request)?;
+    refresh_of(alloc, false, request)?;
     closing_of(alloc, request.body.as_slice())
 }

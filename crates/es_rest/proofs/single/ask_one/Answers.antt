@@ -4,7 +4,7 @@ use Rattle.std.proofs.lemmas.Result.{err_from_is_err_and}
 use Rattle.list_machine.specs.declared.event.Limits.{Limits}
 use Rattle.es_rest.specs.Scripts.{CutShort, RanScript, refreshes}
 use Rattle.es_rest.proofs.Led.{by_names, one_cut_first, one_cut_later, one_refused, one_taken}
-use Rattle.es_rest.proofs.converse.ask_one.Goals as goal
+use Rattle.es_rest.proofs.single.ask_one.Goals as goal
 
 pub returns-in_err-reply-clause-talk : goal.returns-in_err-reply-clause-talk
 returns-in_err-reply-clause-talk g c ask label =

@@ -1,12 +1,17 @@
-ghost use Rattle.std.specs.Prelude.{◌≡◌, ◌≤◌, false, IfOk};
+//! What a search asks for.
+ghost use Rattle.std.specs.Prelude.{◌≡◌, ◌≤◌, IfOk};
 ghost use Rattle.search_json.specs.Searches.{search_of};
-ghost use Rattle.es_route.specs.Route.{Answers, AreWithinLimits, AsksSound, batch_asked, batch_used, check_search, has_unbuilt, index_told, index_where, is_batch, limits_told, search_asked, search_told, target_asked};
 ghost use Rattle.list_machine.specs.Run.{IsWithinLimits};
+ghost use Rattle.es_route.specs.Answers.{Answers};
+ghost use Rattle.es_route.specs.Searches.{AreWithinLimits, batch_asked, batch_used, check_search, has_unbuilt, index_told, index_where, is_batch, limits_told, search_asked, search_told, target_asked};
+ghost use Rattle.es_route.specs.Route.{AsksSound};
 
-use crate::ask::{Ask, gets_or_posts, index_in};
-use crate::items::body_fault;
+use crate::ask::Ask;
+use crate::limits::body_fault;
+use crate::methods::gets_or_posts;
 use crate::params::{Param, batch_in, has_param, params_of};
-use crate::pit::pit_number;
+use crate::paths::index_in;
+use crate::pits::pit_number;
 use doc_json::BodyFault;
 use es_types::{Fail, IndexName, LEAST_BATCH, LimitName, MOST_BATCH, NoMemory, Text, USUAL_BATCH};
 use http_wire::Request;
@@ -168,7 +173,7 @@ fn search_told(
     }
 }
 
-/// What a search asks for; `has_index` says that its path names an index. The body is read behind the path and the query.
+/// What a search asks for; `has_index` says that its path names an index. The body is read after the path and the query.
 pub fn search_asked(alloc: Global, has_index: bool, request: &Request) -> Result<Ask, RestFault>
     ensures answer { Answers result (search_asked has_index request.now) }
     ensures sound { IfOk result AsksSound }

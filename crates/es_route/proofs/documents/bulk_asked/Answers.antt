@@ -1,9 +1,8 @@
 -- The items were checked.
 use Rattle.std.proofs.Common.{sym, ap, ◌∙◌, ℕ, List, Option}
-use Rattle.es_route.specs.Items.{items_of}
-use Rattle.es_route.specs.Route.{checked}
-use Rattle.es_route.proofs.Limits.{has_items}
-use Rattle.es_route.proofs.ask.bulk_asked.Goals as goal
+use Rattle.es_route.specs.Items.{items_of, checked}
+use Rattle.es_route.proofs.Shards.{has_items}
+use Rattle.es_route.proofs.documents.bulk_asked.Goals as goal
 
 pub returns-clause-sound : goal.returns-clause-sound
 returns-clause-sound c =

@@ -1,0 +1,82 @@
+-- What a search asks for.
+use Rattle.std.specs.Prelude.{ℕ, ◌&&◌, ◌||◌, Bool, not, nat_le, if◌then◌else◌, List, Option, Some, None, Result, Ok, Err, codes}
+use Rattle.es_types.specs.declared.limits.TheConstants.{LEAST_BATCH, MOST_BATCH, USUAL_BATCH}
+use Rattle.es_types.specs.declared.limit.LimitName.TheVariants as limit
+use Rattle.http_wire.specs.declared.request.Request.{Request}
+use Rattle.doc_json.specs.declared.fault.BodyFault.{BodyFault}
+use Rattle.doc_json.specs.declared.fault.BodyFault.TheVariants as body
+use Rattle.list_machine.specs.Run.{IsWithinLimits}
+use Rattle.list_machine.specs.declared.event.Target.TheVariants as target
+use Rattle.list_machine.specs.declared.page.request.SearchRequest.{SearchRequest}
+use Rattle.reply_json.specs.declared.fault.RestFault.{RestFault}
+use Rattle.reply_json.specs.declared.fault.RestFault.TheVariants as fault
+use Rattle.es_route.specs.declared.ask.Ask.{Ask}
+use Rattle.es_route.specs.declared.ask.Ask.TheVariants as ask
+use Rattle.search_json.specs.declared.search.PitRef.{PitRef}
+use Rattle.search_json.specs.declared.search.SearchBody.{SearchBody}
+use Rattle.search_json.specs.Searches.{search_of}
+use Rattle.es_route.specs.declared.params.Param.{Param}
+use Rattle.es_route.specs.Answers.{and_then}
+use Rattle.es_route.specs.Paths.{index_in}
+use Rattle.es_route.specs.Params.{batch_in, has_param, params_of}
+use Rattle.es_route.specs.Limits.{body_fault, named_index}
+use Rattle.es_route.specs.Methods.{gets_or_posts}
+use Rattle.es_route.specs.Pits.{pit_number}
+
+-- what a body asks for is within the limits of a search
+abbrev pub AreWithinLimits : Result SearchBody BodyFault → Type 0
+AreWithinLimits (Ok asked) = IsWithinLimits asked.request
+AreWithinLimits (Err fault) = Unit {0}
+
+abbrev pub batch_asked : Request → Result ℕ RestFault
+batch_asked request = batch_in None (params_of request.query)
+
+abbrev pub is_batch : ℕ → Bool
+is_batch batch = nat_le LEAST_BATCH batch && nat_le batch MOST_BATCH
+
+-- what a body is read with: the usual number where the request's is none
+abbrev pub batch_used : ℕ → ℕ
+batch_used batch = if is_batch batch then batch else USUAL_BATCH
+
+-- the index that the path names, where it names one
+abbrev pub index_where : Bool → Request → Result (Option (List ℕ)) RestFault
+index_where has_index request = if has_index then and_then (index_in request) (λ index. Ok (Some index)) else Ok None
+
+abbrev pub index_told : Option (List ℕ) → Result (Option (List ℕ)) RestFault
+index_told None = Ok None
+index_told (Some index) = named_index index (Some index)
+
+-- the limits that are told before most of the body's: of the index's name, and then of the batch
+abbrev pub limits_told : Option (List ℕ) → ℕ → Result (Option (List ℕ)) RestFault
+limits_told index batch = and_then (index_told index) (λ index. if is_batch batch then Ok index else Err (fault.Limit limit.Batch))
+
+abbrev pub searched_pit : Option PitRef → SearchRequest → Result Ask RestFault
+searched_pit None request = Err (fault.Limit limit.Pit)
+searched_pit (Some pit) request = Ok (ask.Search (target.Pit (pit_number pit.id) pit.keep) request (Some pit.id))
+
+abbrev pub target_asked : Option (List ℕ) → SearchBody → Result Ask RestFault
+target_asked (Some index) asked = Ok (ask.Search (target.Index index) asked.request None)
+target_asked None asked = searched_pit asked.pit asked.request
+
+-- A body that is none comes before all limits, and a text that is no id after them. How long a point in time is kept is told before
+-- the batch.
+abbrev pub search_told : Option (List ℕ) → ℕ → Result SearchBody BodyFault → Result Ask RestFault
+search_told index batch (Ok asked) = and_then (limits_told index batch) (λ index. target_asked index asked)
+search_told index batch (Err (body.Limit limit.KeepAlive)) = and_then (index_told index) (λ index. Err (fault.Limit limit.KeepAlive))
+search_told index batch (Err (body.Limit name)) = and_then (limits_told index batch) (λ index. Err (fault.Limit name))
+search_told index batch (Err body.BadId) = and_then (limits_told index batch) (λ index. Err fault.BadId)
+search_told index batch (Err other) = Err (body_fault other)
+
+abbrev pub search_asked : Bool → Request → Result Ask RestFault
+search_asked has_index request =
+    and_then (index_where has_index request) (λ index. and_then (batch_asked request) (λ batch.
+    search_told index batch (search_of has_index (batch_used batch) request.body)))
+
+-- the parameters of a search that aren't built yet: `scroll` is one of an index
+abbrev pub has_unbuilt : Bool → List Param → Bool
+has_unbuilt has_index params =
+    has_param (codes "pretty") params || (has_index && has_param (codes "scroll") params)
+
+abbrev pub check_search : Bool → Request → Result (Unit {0}) RestFault
+check_search has_index request =
+    if gets_or_posts request && not (has_unbuilt has_index (params_of request.query)) then Ok tt else Err fault.NotBuilt
