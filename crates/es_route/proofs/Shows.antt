@@ -1,6 +1,6 @@
 -- Each search of a point in time that a request makes asks for the place of each hit.
 use Rattle.std.proofs.Common.{subst, ℕ, Bool, true, false, List, Option, Some, None, Result, Ok, Err}
-use Rattle.std.specs.Prelude.{if◌then◌else◌, codes, IfOk, IfSome, IsTrue}
+use Rattle.std.specs.Prelude.{[], ◌∷◌, unwrap_or, if◌then◌else◌, codes, IfOk, IfSome, IsTrue}
 use Rattle.es_types.specs.declared.doc.Doc.{Doc}
 use Rattle.es_types.specs.Name.{is_doc_id, is_index_name}
 use Rattle.es_types.specs.declared.limit.LimitName.{LimitName}
@@ -28,7 +28,8 @@ use Rattle.es_route.specs.declared.resource.Resource.TheVariants as resource
 use Rattle.es_route.specs.Moments.{is_unreadable}
 use Rattle.es_route.specs.Resources.{resource_of}
 use Rattle.es_route.specs.Paths.{part, id_in, index_in, is_own_word}
-use Rattle.es_route.specs.Params.{params_of, refresh_in, keep_in}
+use Rattle.es_route.specs.declared.values.Key.TheVariants as key
+use Rattle.es_route.specs.Values.{needed, read_params}
 use Rattle.es_route.specs.Limits.{named, limit_told, named_index}
 use Rattle.es_route.specs.Items.{items_of, checked}
 use Rattle.es_route.specs.Route.{PitSearchesShowPlaces, asked_of, asked_at, asked_at_index, doc_asked, moment_first, of_index}
@@ -37,7 +38,7 @@ use Rattle.es_route.specs.Bodies.{empty_body, no_body, some_body}
 use Rattle.es_route.specs.Methods.{built, check_built, gets_or_posts, is_method, puts_or_posts}
 use Rattle.es_route.specs.Documents.{bulk_asked, create_asked, create_of, index_bulk_asked, put_asked, put_of, refresh_asked, remove_asked}
 use Rattle.es_route.specs.Pits.{closing_asked, closing_of, opening_asked, opening_of}
-use Rattle.es_route.specs.Searches.{batch_asked, batch_used, check_search, index_told, index_where, limits_told, search_asked, search_told, searched_pit, target_asked}
+use Rattle.es_route.specs.Searches.{batch_of, batch_used, check_search, index_told, index_where, limits_told, search_asked, search_told, searched_pit, target_asked}
 
 -- of one ask
 abbrev AskShows : Ask → Type 0
@@ -84,8 +85,8 @@ told_shows index batch (Err other) shows = tt
 
 search_shows : (bodies : BodiesShow) (has_index : Bool) (request : Request) → Shows (search_asked has_index request)
 search_shows bodies has_index request =
-    then_shows (index_where has_index request) _ (λ index. then_shows (batch_asked request) _ (λ batch.
-    told_shows index batch (search_of has_index (batch_used batch) request.body) (bodies has_index (batch_used batch) request.body)))
+    then_shows (index_where has_index request) _ (λ index. then_shows (read_params (key.Batch ∷ []) request.query) _ (λ values.
+    told_shows index (batch_of values) (search_of has_index (batch_used (batch_of values)) request.body) (bodies has_index (batch_used (batch_of values)) request.body)))
 
 -- ---- the other requests search nothing
 
@@ -99,7 +100,7 @@ created_shows index (Err other) = tt
 
 create_shows : (request : Request) → Shows (create_asked request)
 create_shows request =
-    then_shows (index_in request) _ (λ index. then_shows (refresh_in false None (params_of request.query)) _ (λ refresh.
+    then_shows (index_in request) _ (λ index. then_shows (read_params [] request.query) _ (λ values.
     created_shows index (index_of request.body)))
 
 named_shows : (index id : List ℕ) (asked : Ask) → AskShows asked → Shows (named index id asked)
@@ -113,17 +114,17 @@ doc_shows index id refresh (Err fault) = tt
 put_shows : (request : Request) → Shows (put_asked request)
 put_shows request =
     then_shows (index_in request) _ (λ index. then_shows (id_in request) _ (λ id.
-    then_shows (refresh_in true None (params_of request.query)) _ (λ refresh. doc_shows index id refresh (doc_of request.body))))
+    then_shows (read_params (key.Refresh ∷ []) request.query) _ (λ values. doc_shows index id (unwrap_or values.refresh false) (doc_of request.body))))
 
 remove_shows : (request : Request) → Shows (remove_asked request)
 remove_shows request =
     then_shows (index_in request) _ (λ index. then_shows (id_in request) _ (λ id.
-    then_shows (refresh_in true None (params_of request.query)) _ (λ refresh. then_shows (no_body request) _ (λ none.
-    named_shows index id (ask.Remove index id refresh) tt))))
+    then_shows (read_params (key.Refresh ∷ []) request.query) _ (λ values. then_shows (no_body request) _ (λ none.
+    named_shows index id (ask.Remove index id (unwrap_or values.refresh false)) tt))))
 
 bulk_shows : (index : Option (List ℕ)) (request : Request) → Shows (bulk_asked index request)
 bulk_shows index request =
-    then_shows (refresh_in true None (params_of request.query)) _ (λ refresh. then_shows (some_body request) _ (λ some.
+    then_shows (read_params (key.Refresh ∷ []) request.query) _ (λ values. then_shows (some_body request) _ (λ some.
     then_shows (checked (items_of index request.body)) _ (λ items. tt)))
 
 index_bulk_shows : (request : Request) → Shows (index_bulk_asked request)
@@ -131,7 +132,7 @@ index_bulk_shows request = then_shows (index_in request) _ (λ index. bulk_shows
 
 refresh_shows : (request : Request) → Shows (refresh_asked request)
 refresh_shows request =
-    then_shows (index_in request) _ (λ index. then_shows (refresh_in false None (params_of request.query)) _ (λ refresh.
+    then_shows (index_in request) _ (λ index. then_shows (read_params [] request.query) _ (λ refresh.
     then_shows (no_body request) _ (λ none. index_shows index (ask.Refresh index) tt)))
 
 opened_shows : (index : List ℕ) (keep : Option ℕ) → Shows (opening_of index keep)
@@ -140,15 +141,15 @@ opened_shows index (Some keep) = index_shows index (ask.OpenPit index keep) tt
 
 opening_shows : (request : Request) → Shows (opening_asked request)
 opening_shows request =
-    then_shows (index_in request) _ (λ index. then_shows (keep_in None (params_of request.query)) _ (λ keep.
-    then_shows (empty_body request) _ (λ none. opened_shows index keep)))
+    then_shows (index_in request) _ (λ index. then_shows (read_params (key.KeepAlive ∷ []) request.query) _ (λ values.
+    then_shows (needed key.KeepAlive values.keep) _ (λ keep. then_shows (empty_body request) _ (λ none. opened_shows index keep))))
 
 closed_shows : (id : Result ContextId BodyFault) → Shows (closing_of id)
 closed_shows (Ok id) = tt
 closed_shows (Err fault) = tt
 
 closing_shows : (request : Request) → Shows (closing_asked request)
-closing_shows request = then_shows (refresh_in false None (params_of request.query)) _ (λ none. closed_shows (pit_close_of request.body))
+closing_shows request = then_shows (read_params [] request.query) _ (λ none. closed_shows (pit_close_of request.body))
 
 -- ---- the routes
 

@@ -1,5 +1,5 @@
 -- What requests for an index and its documents ask for.
-use Rattle.std.specs.Prelude.{ℕ, Bool, true, false, List, Option, Some, None, Result, Ok, Err}
+use Rattle.std.specs.Prelude.{ℕ, Bool, false, List, [], ◌∷◌, Option, Some, unwrap_or, Result, Ok, Err}
 use Rattle.es_types.specs.declared.doc.Doc.{Doc}
 use Rattle.http_wire.specs.declared.request.Request.{Request}
 use Rattle.doc_json.specs.declared.fault.BodyFault.{BodyFault}
@@ -12,7 +12,8 @@ use Rattle.es_route.specs.declared.ask.Ask.{Ask}
 use Rattle.es_route.specs.declared.ask.Ask.TheVariants as ask
 use Rattle.es_route.specs.Answers.{and_then}
 use Rattle.es_route.specs.Paths.{id_in, index_in}
-use Rattle.es_route.specs.Params.{params_of, refresh_in}
+use Rattle.es_route.specs.declared.values.Key.TheVariants as key
+use Rattle.es_route.specs.Values.{read_params}
 use Rattle.es_route.specs.Limits.{body_fault, limit_told, named, named_index}
 use Rattle.es_route.specs.Bodies.{no_body, some_body}
 use Rattle.es_route.specs.Items.{checked, items_of}
@@ -32,29 +33,29 @@ remove_of index id refresh = named index id (ask.Remove index id refresh)
 
 abbrev pub create_asked : Request → Result Ask RestFault
 create_asked request =
-    and_then (index_in request) (λ index. and_then (refresh_in false None (params_of request.query)) (λ refresh.
+    and_then (index_in request) (λ index. and_then (read_params [] request.query) (λ values.
     create_of index (index_of request.body)))
 
 abbrev pub put_asked : Request → Result Ask RestFault
 put_asked request =
     and_then (index_in request) (λ index. and_then (id_in request) (λ id.
-    and_then (refresh_in true None (params_of request.query)) (λ refresh. put_of index id refresh (doc_of request.body))))
+    and_then (read_params (key.Refresh ∷ []) request.query) (λ values. put_of index id (unwrap_or values.refresh false) (doc_of request.body))))
 
 abbrev pub remove_asked : Request → Result Ask RestFault
 remove_asked request =
     and_then (index_in request) (λ index. and_then (id_in request) (λ id.
-    and_then (refresh_in true None (params_of request.query)) (λ refresh. and_then (no_body request) (λ none.
-    remove_of index id refresh))))
+    and_then (read_params (key.Refresh ∷ []) request.query) (λ values. and_then (no_body request) (λ none.
+    remove_of index id (unwrap_or values.refresh false)))))
 
 abbrev pub bulk_asked : Option (List ℕ) → Request → Result Ask RestFault
 bulk_asked index request =
-    and_then (refresh_in true None (params_of request.query)) (λ refresh. and_then (some_body request) (λ some.
-    and_then (checked (items_of index request.body)) (λ items. Ok (ask.Bulk index request.body refresh))))
+    and_then (read_params (key.Refresh ∷ []) request.query) (λ values. and_then (some_body request) (λ some.
+    and_then (checked (items_of index request.body)) (λ items. Ok (ask.Bulk index request.body (unwrap_or values.refresh false)))))
 
 abbrev pub index_bulk_asked : Request → Result Ask RestFault
 index_bulk_asked request = and_then (index_in request) (λ index. bulk_asked (Some index) request)
 
 abbrev pub refresh_asked : Request → Result Ask RestFault
 refresh_asked request =
-    and_then (index_in request) (λ index. and_then (refresh_in false None (params_of request.query)) (λ refresh.
+    and_then (index_in request) (λ index. and_then (read_params [] request.query) (λ values.
     and_then (no_body request) (λ none. named_index index (ask.Refresh index))))

@@ -3,6 +3,7 @@ pub mod Moments
 pub mod Resources
 pub mod Paths
 pub mod Params
+pub mod Values
 pub mod Limits
 pub mod Bodies
 pub mod Methods

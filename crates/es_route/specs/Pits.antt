@@ -1,5 +1,5 @@
 -- What requests for points in time ask for.
-use Rattle.std.specs.Prelude.{ℕ, false, List, Option, Some, None, Result, Ok, Err}
+use Rattle.std.specs.Prelude.{ℕ, List, [], ◌∷◌, Option, Some, None, Result, Ok, Err}
 use Rattle.es_types.specs.declared.limit.LimitName.TheVariants as limit
 use Rattle.ctx_ids.specs.declared.id.ContextId.{ContextId}
 use Rattle.ctx_ids.specs.declared.id.Kind.{Kind}
@@ -12,7 +12,8 @@ use Rattle.es_route.specs.declared.ask.Ask.TheVariants as ask
 use Rattle.search_json.specs.Pits.{pit_close_of}
 use Rattle.es_route.specs.Answers.{and_then}
 use Rattle.es_route.specs.Paths.{index_in}
-use Rattle.es_route.specs.Params.{keep_in, params_of, refresh_in}
+use Rattle.es_route.specs.declared.values.Key.TheVariants as key
+use Rattle.es_route.specs.Values.{needed, read_params}
 use Rattle.es_route.specs.Limits.{body_fault, limit_told, named_index}
 use Rattle.es_route.specs.Bodies.{empty_body}
 
@@ -23,8 +24,8 @@ opening_of index (Some keep) = named_index index (ask.OpenPit index keep)
 
 abbrev pub opening_asked : Request → Result Ask RestFault
 opening_asked request =
-    and_then (index_in request) (λ index. and_then (keep_in None (params_of request.query)) (λ keep.
-    and_then (empty_body request) (λ none. opening_of index keep)))
+    and_then (index_in request) (λ index. and_then (read_params (key.KeepAlive ∷ []) request.query) (λ values.
+    and_then (needed key.KeepAlive values.keep) (λ keep. and_then (empty_body request) (λ none. opening_of index keep))))
 
 abbrev pub number_by : Kind → ℕ → ℕ
 number_by kind.Pit number = number
@@ -40,4 +41,4 @@ closing_of (Err fault) = Err (body_fault fault)
 
 abbrev pub closing_asked : Request → Result Ask RestFault
 closing_asked request =
-    and_then (refresh_in false None (params_of request.query)) (λ none. closing_of (pit_close_of request.body))
+    and_then (read_params [] request.query) (λ values. closing_of (pit_close_of request.body))

@@ -1,5 +1,5 @@
 -- What a search asks for.
-use Rattle.std.specs.Prelude.{ℕ, ◌&&◌, ◌||◌, Bool, not, nat_le, if◌then◌else◌, List, Option, Some, None, Result, Ok, Err, codes}
+use Rattle.std.specs.Prelude.{ℕ, ◌&&◌, ◌||◌, Bool, not, nat_le, if◌then◌else◌, List, Option, Some, None, Result, Ok, Err, codes, [], ◌∷◌, unwrap_or}
 use Rattle.es_types.specs.declared.limits.TheConstants.{LEAST_BATCH, MOST_BATCH, USUAL_BATCH}
 use Rattle.es_types.specs.declared.limit.LimitName.TheVariants as limit
 use Rattle.http_wire.specs.declared.request.Request.{Request}
@@ -18,7 +18,10 @@ use Rattle.search_json.specs.Searches.{search_of}
 use Rattle.es_route.specs.declared.params.Param.{Param}
 use Rattle.es_route.specs.Answers.{and_then}
 use Rattle.es_route.specs.Paths.{index_in}
-use Rattle.es_route.specs.Params.{batch_in, has_param, params_of}
+use Rattle.es_route.specs.Params.{has_param, params_of}
+use Rattle.es_route.specs.declared.values.Key.TheVariants as key
+use Rattle.es_route.specs.declared.values.Values.{Values}
+use Rattle.es_route.specs.Values.{read_params}
 use Rattle.es_route.specs.Limits.{body_fault, named_index}
 use Rattle.es_route.specs.Methods.{gets_or_posts}
 use Rattle.es_route.specs.Pits.{pit_number}
@@ -28,8 +31,9 @@ abbrev pub AreWithinLimits : Result SearchBody BodyFault → Type 0
 AreWithinLimits (Ok asked) = IsWithinLimits asked.request
 AreWithinLimits (Err fault) = Unit {0}
 
-abbrev pub batch_asked : Request → Result ℕ RestFault
-batch_asked request = batch_in None (params_of request.query)
+-- how many shards make a batch, as the request says or as is usual
+abbrev pub batch_of : Values → ℕ
+batch_of values = unwrap_or values.batch USUAL_BATCH
 
 abbrev pub is_batch : ℕ → Bool
 is_batch batch = nat_le LEAST_BATCH batch && nat_le batch MOST_BATCH
@@ -69,8 +73,8 @@ search_told index batch (Err other) = Err (body_fault other)
 
 abbrev pub search_asked : Bool → Request → Result Ask RestFault
 search_asked has_index request =
-    and_then (index_where has_index request) (λ index. and_then (batch_asked request) (λ batch.
-    search_told index batch (search_of has_index (batch_used batch) request.body)))
+    and_then (index_where has_index request) (λ index. and_then (read_params (key.Batch ∷ []) request.query) (λ values.
+    search_told index (batch_of values) (search_of has_index (batch_used (batch_of values)) request.body)))
 
 -- the parameters of a search that aren't built yet: `scroll` is one of an index
 abbrev pub has_unbuilt : Bool → List Param → Bool

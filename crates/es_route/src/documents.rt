@@ -10,8 +10,8 @@ use crate::ask::Ask;
 use crate::bodies::{no_body, some_body};
 use crate::items::check_items;
 use crate::limits::{body_fault, limit_told, named, named_index};
-use crate::params::refresh_of;
 use crate::paths::{id_in, index_in};
+use crate::values::{Key, read_params};
 use doc_json::{BodyFault, read_doc, read_index};
 use es_types::{Bytes, Copied, Fail, Text};
 use http_wire::Request;
@@ -39,7 +39,7 @@ pub fn create_asked(alloc: Global, request: &Request) -> Result<Ask, RestFault>
     ensures sound { IfOk result AsksSound }
 {
     let index = index_in(alloc, request)?;
-    refresh_of(alloc, false, request)?;
+    read_params(alloc, &[], request)?;
     create_of(alloc, index, request.body.as_slice())
 }
 
@@ -75,7 +75,8 @@ pub fn put_asked(alloc: Global, request: &Request) -> Result<Ask, RestFault>
 {
     let index = index_in(alloc, request)?;
     let id = id_in(alloc, request)?;
-    let refresh = refresh_of(alloc, true, request)?;
+    let values = read_params(alloc, &[Key::Refresh], request)?;
+    let refresh = values.refresh.unwrap_or(false);
     put_of(alloc, index, id, refresh, request.body.as_slice())
 }
 
@@ -94,7 +95,8 @@ pub fn remove_asked(alloc: Global, request: &Request) -> Result<Ask, RestFault>
 {
     let index = index_in(alloc, request)?;
     let id = id_in(alloc, request)?;
-    let refresh = refresh_of(alloc, true, request)?;
+    let values = read_params(alloc, &[Key::Refresh], request)?;
+    let refresh = values.refresh.unwrap_or(false);
     no_body(request)?;
     remove_of(index, id, refresh)
 }
@@ -104,7 +106,8 @@ pub fn bulk_asked(alloc: Global, index: Option<Text>, request: &Request) -> Resu
     ensures answer { Answers result (bulk_asked index request.now) }
     ensures sound { IfOk result AsksSound }
 {
-    let refresh = refresh_of(alloc, true, request)?;
+    let values = read_params(alloc, &[Key::Refresh], request)?;
+    let refresh = values.refresh.unwrap_or(false);
     some_body(request)?;
     check_items(alloc, index.as_ref(), request.body.as_slice())?;
     let body = Bytes::copy(&request.body, alloc)?;
@@ -130,7 +133,7 @@ pub fn refresh_asked(alloc: Global, request: &Request) -> Result<Ask, RestFault>
     ensures sound { IfOk result AsksSound }
 {
     let index = index_in(alloc, request)?;
-    refresh_of(alloc, false, request)?;
+    read_params(alloc, &[], request)?;
     no_body(request)?;
     let index = named_index(index)?;
     Ok(Ask::Refresh { index })

@@ -16,6 +16,7 @@ mod pits;
 mod resource;
 mod routing;
 mod searches;
+mod values;
 
 pub use ask::Ask;
 pub use items::write_of;

@@ -2,29 +2,20 @@
 ghost use Rattle.std.specs.Prelude.{◌≡◌, None, IfOk};
 ghost use Rattle.search_json.specs.Pits.{pit_close_of};
 ghost use Rattle.es_route.specs.Answers.{Answers};
-ghost use Rattle.es_route.specs.Params.{keep_in, params_of};
 ghost use Rattle.es_route.specs.Pits.{closing_asked, closing_of, opening_asked, opening_of, pit_number};
 ghost use Rattle.es_route.specs.Route.{AsksSound};
 
 use crate::ask::Ask;
 use crate::bodies::empty_body;
 use crate::limits::{body_fault, limit_told, named_index};
-use crate::params::{keep_in, params_of, refresh_of};
 use crate::paths::index_in;
+use crate::values::{Key, needed, read_params};
 use ctx_ids::{ContextId, Kind};
 use es_types::{Fail, KeepAlive, LimitName, Text};
 use http_wire::Request;
 use reply_json::RestFault;
 use search_json::read_pit_close;
 use std::alloc::Global;
-
-// How long the query says that a point in time is kept.
-fn keep_of(alloc: Global, request: &Request) -> Result<Option<KeepAlive>, RestFault>
-    ensures { Answers result (keep_in None (params_of request.now.query)) }
-{
-    let params = params_of(alloc, request.query.as_slice())?;
-    keep_in(alloc, None, &params)
-}
 
 fn opening_of(index: Text, keep: Option<KeepAlive>) -> Result<Ask, RestFault>
     ensures answer { result ≡ opening_of index keep }
@@ -45,7 +36,8 @@ pub fn opening_asked(alloc: Global, request: &Request) -> Result<Ask, RestFault>
     ensures sound { IfOk result AsksSound }
 {
     let index = index_in(alloc, request)?;
-    let keep = keep_of(alloc, request)?;
+    let values = read_params(alloc, &[Key::KeepAlive], request)?;
+    let keep = needed(alloc, Key::KeepAlive, values.keep)?;
     empty_body(alloc, request)?;
     opening_of(index, keep)
 }
@@ -78,6 +70,6 @@ pub fn closing_asked(alloc: Global, request: &Request) -> Result<Ask, RestFault>
     ensures answer { Answers result (closing_asked request.now) }
     ensures sound { IfOk result AsksSound }
 {
-    refresh_of(alloc, false, request)?;
+    read_params(alloc, &[], request)?;
     closing_of(alloc, request.body.as_slice())
 }

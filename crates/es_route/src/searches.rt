@@ -3,15 +3,16 @@ ghost use Rattle.std.specs.Prelude.{◌≡◌, ◌≤◌, IfOk};
 ghost use Rattle.search_json.specs.Searches.{search_of};
 ghost use Rattle.list_machine.specs.Run.{IsWithinLimits};
 ghost use Rattle.es_route.specs.Answers.{Answers};
-ghost use Rattle.es_route.specs.Searches.{AreWithinLimits, batch_asked, batch_used, check_search, has_unbuilt, index_told, index_where, is_batch, limits_told, search_asked, search_told, target_asked};
+ghost use Rattle.es_route.specs.Searches.{AreWithinLimits, batch_used, check_search, has_unbuilt, index_told, index_where, is_batch, limits_told, search_asked, search_told, target_asked};
 ghost use Rattle.es_route.specs.Route.{AsksSound};
 
 use crate::ask::Ask;
 use crate::limits::body_fault;
 use crate::methods::gets_or_posts;
-use crate::params::{Param, batch_in, has_param, params_of};
+use crate::params::{Param, has_param, params_of};
 use crate::paths::index_in;
 use crate::pits::pit_number;
+use crate::values::{Key, read_params};
 use doc_json::BodyFault;
 use es_types::{Fail, IndexName, LEAST_BATCH, LimitName, MOST_BATCH, NoMemory, Text, USUAL_BATCH};
 use http_wire::Request;
@@ -39,14 +40,6 @@ pub fn check_search(alloc: Global, has_index: bool, request: &Request) -> Result
         return Err(RestFault::NotBuilt);
     }
     Ok(())
-}
-
-// How many shards the query says make a batch.
-fn batch_asked(alloc: Global, request: &Request) -> Result<u32, RestFault>
-    ensures { Answers result (batch_asked request.now) }
-{
-    let params = params_of(alloc, request.query.as_slice())?;
-    batch_in(alloc, None, &params)
 }
 
 fn is_batch(batch: u32) -> bool
@@ -179,7 +172,8 @@ pub fn search_asked(alloc: Global, has_index: bool, request: &Request) -> Result
     ensures sound { IfOk result AsksSound }
 {
     let index = index_where(alloc, has_index, request)?;
-    let batch = batch_asked(alloc, request)?;
+    let values = read_params(alloc, &[Key::Batch], request)?;
+    let batch = values.batch.unwrap_or(USUAL_BATCH);
     let asked = body_of(alloc, has_index, batch_used(batch), request)?;
     search_told(index, batch, asked)
 }

@@ -1,9 +1,9 @@
 -- What `parse` gives is the number of the digits.
 use Rattle.std.proofs.Common.{ap, sym, ◌∙◌}
 use Rattle.std.specs.Result.{result_ok}
-use Rattle.es_route.specs.Params.{are_digits}
+use Rattle.es_route.specs.Values.{are_digits}
 use Rattle.es_route.proofs.Numerals.{digits_read}
-use Rattle.es_route.proofs.params.batch_value.Goals as goal
+use Rattle.es_route.proofs.values.batch_value.Goals as goal
 
 pub returns-in-Ok : goal.returns-in-Ok
 returns-in-Ok c =
