@@ -3,6 +3,7 @@ pub mod Objects
 pub mod Queries
 pub mod Parts
 pub mod Asks
+pub mod Ranks
 pub mod Shards
 pub mod Numerals
 pub mod Shows

@@ -2,9 +2,6 @@
 use Rattle.std.proofs.Common.{subst, ℕ, Bool, true, false, List, Option, Some, None, Result, Ok, Err}
 use Rattle.std.specs.Prelude.{[], ◌∷◌, unwrap_or, if◌then◌else◌, codes, IfOk, IfSome, IsTrue}
 use Rattle.es_types.specs.declared.doc.Doc.{Doc}
-use Rattle.es_types.specs.Name.{is_doc_id, is_index_name}
-use Rattle.es_types.specs.declared.limit.LimitName.{LimitName}
-use Rattle.es_types.specs.declared.limit.LimitName.TheVariants as limit
 use Rattle.ctx_ids.specs.declared.id.ContextId.{ContextId}
 use Rattle.doc_json.specs.declared.fault.BodyFault.{BodyFault}
 use Rattle.doc_json.specs.declared.fault.BodyFault.TheVariants as body
@@ -30,7 +27,7 @@ use Rattle.es_route.specs.Resources.{resource_of}
 use Rattle.es_route.specs.Paths.{part, id_in, index_in, is_own_word}
 use Rattle.es_route.specs.declared.values.Key.TheVariants as key
 use Rattle.es_route.specs.Values.{needed, read_params}
-use Rattle.es_route.specs.Limits.{named, limit_told, named_index}
+use Rattle.es_route.specs.Limits.{index_name, named, told}
 use Rattle.es_route.specs.Items.{items_of, checked}
 use Rattle.es_route.specs.Route.{PitSearchesShowPlaces, asked_of, asked_at, asked_at_index, doc_asked, moment_first, of_index}
 use Rattle.es_route.specs.Answers.{and_then}
@@ -38,7 +35,7 @@ use Rattle.es_route.specs.Bodies.{empty_body, no_body, some_body}
 use Rattle.es_route.specs.Methods.{built, check_built, gets_or_posts, is_method, puts_or_posts}
 use Rattle.es_route.specs.Documents.{bulk_asked, create_asked, create_of, index_bulk_asked, put_asked, put_of, refresh_asked, remove_asked}
 use Rattle.es_route.specs.Pits.{closing_asked, closing_of, opening_asked, opening_of}
-use Rattle.es_route.specs.Searches.{batch_of, batch_used, check_search, index_told, index_where, limits_told, search_asked, search_told, searched_pit, target_asked}
+use Rattle.es_route.specs.Searches.{batch_of, batch_used, check_search, index_where, read_with, search_asked, search_told, searched_pit, target_asked}
 
 -- of one ask
 abbrev AskShows : Ask → Type 0
@@ -63,9 +60,6 @@ either_shows : (test : Bool) (one other : Result Ask RestFault) → Shows one �
 either_shows true one other first second = first
 either_shows false one other first second = second
 
-index_shows : (index : List ℕ) (asked : Ask) → AskShows asked → Shows (named_index index asked)
-index_shows index asked shows = either_shows (is_index_name index) (Ok asked) (Err (fault.Limit limit.Index)) shows tt
-
 -- ---- searches
 
 searched_shows : (pit : Option PitRef) (search : SearchRequest) → IfSome pit (λ p. IsTrue (shows_place search.sort)) → Shows (searched_pit pit search)
@@ -77,10 +71,9 @@ target_shows (Some index) asked shows = tt
 target_shows None asked shows = searched_shows asked.pit asked.request shows
 
 told_shows : (index : Option (List ℕ)) (batch : ℕ) (asked : Result SearchBody BodyFault) → IfOk asked ShowsInPit → Shows (search_told index batch asked)
-told_shows index batch (Ok asked) shows = then_shows (limits_told index batch) _ (λ index. target_shows index asked shows)
-told_shows index batch (Err (body.Limit limit.KeepAlive)) shows = then_shows (index_told index) _ (λ index. tt)
-told_shows index batch (Err (body.Limit name)) shows = then_shows (limits_told index batch) _ (λ index. tt)
-told_shows index batch (Err body.BadId) shows = then_shows (limits_told index batch) _ (λ index. tt)
+told_shows index batch (Ok asked) shows = then_shows (told (read_with index batch)) _ (λ it. target_shows it.0 asked shows)
+told_shows index batch (Err (body.Limit name)) shows = tt
+told_shows index batch (Err body.BadId) shows = then_shows (told (read_with index batch)) _ (λ it. tt)
 told_shows index batch (Err other) shows = tt
 
 search_shows : (bodies : BodiesShow) (has_index : Bool) (request : Request) → Shows (search_asked has_index request)
@@ -90,12 +83,9 @@ search_shows bodies has_index request =
 
 -- ---- the other requests search nothing
 
-limit_shows : (index : List ℕ) (name : LimitName) → Shows (limit_told index name)
-limit_shows index name = either_shows (is_index_name index) (Err (fault.Limit name)) (Err (fault.Limit limit.Index)) tt tt
-
 created_shows : (index : List ℕ) (spec : Result IndexSpec BodyFault) → Shows (create_of index spec)
-created_shows index (Ok spec) = index_shows index (ask.Create index spec) tt
-created_shows index (Err (body.Limit name)) = limit_shows index name
+created_shows index (Ok spec) = then_shows (told (index_name index)) _ (λ name. tt)
+created_shows index (Err (body.Limit name)) = tt
 created_shows index (Err other) = tt
 
 create_shows : (request : Request) → Shows (create_asked request)
@@ -103,12 +93,8 @@ create_shows request =
     then_shows (index_in request) _ (λ index. then_shows (read_params [] request.query) _ (λ values.
     created_shows index (index_of request.body)))
 
-named_shows : (index id : List ℕ) (asked : Ask) → AskShows asked → Shows (named index id asked)
-named_shows index id asked shows =
-    either_shows (is_index_name index) _ (Err (fault.Limit limit.Index)) (either_shows (is_doc_id id) (Ok asked) (Err (fault.Limit limit.Id)) shows tt) tt
-
 doc_shows : (index id : List ℕ) (refresh : Bool) (doc : Result Doc BodyFault) → Shows (put_of index id refresh doc)
-doc_shows index id refresh (Ok doc) = named_shows index id (ask.Put index id doc refresh) tt
+doc_shows index id refresh (Ok doc) = then_shows (named index id) _ (λ it. tt)
 doc_shows index id refresh (Err fault) = tt
 
 put_shows : (request : Request) → Shows (put_asked request)
@@ -120,7 +106,7 @@ remove_shows : (request : Request) → Shows (remove_asked request)
 remove_shows request =
     then_shows (index_in request) _ (λ index. then_shows (id_in request) _ (λ id.
     then_shows (read_params (key.Refresh ∷ []) request.query) _ (λ values. then_shows (no_body request) _ (λ none.
-    named_shows index id (ask.Remove index id (unwrap_or values.refresh false)) tt))))
+    then_shows (named index id) _ (λ it. tt)))))
 
 bulk_shows : (index : Option (List ℕ)) (request : Request) → Shows (bulk_asked index request)
 bulk_shows index request =
@@ -133,11 +119,11 @@ index_bulk_shows request = then_shows (index_in request) _ (λ index. bulk_shows
 refresh_shows : (request : Request) → Shows (refresh_asked request)
 refresh_shows request =
     then_shows (index_in request) _ (λ index. then_shows (read_params [] request.query) _ (λ refresh.
-    then_shows (no_body request) _ (λ none. index_shows index (ask.Refresh index) tt)))
+    then_shows (no_body request) _ (λ none. then_shows (told (index_name index)) _ (λ name. tt))))
 
 opened_shows : (index : List ℕ) (keep : Option ℕ) → Shows (opening_of index keep)
-opened_shows index None = limit_shows index limit.KeepAlive
-opened_shows index (Some keep) = index_shows index (ask.OpenPit index keep) tt
+opened_shows index None = tt
+opened_shows index (Some keep) = then_shows (told (index_name index)) _ (λ name. tt)
 
 opening_shows : (request : Request) → Shows (opening_asked request)
 opening_shows request =

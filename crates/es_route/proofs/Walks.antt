@@ -4,14 +4,16 @@ use Rattle.std.specs.Prelude.{Bool, true, false, if◌then◌else◌}
 use Rattle.es_types.specs.Name.{is_doc_id, is_index_name}
 use Rattle.list_machine.specs.declared.event.Change.{Change}
 use Rattle.list_machine.specs.declared.event.Event.{Event}
+use Rattle.list_machine.specs.declared.event.Event.TheVariants.{Write}
+use Rattle.es_types.specs.declared.limit.LimitName.TheVariants as limit
 use Rattle.doc_json.specs.declared.bulk.BulkItem.{BulkItem}
 use Rattle.doc_json.specs.declared.fault.BodyFault.{BodyFault}
 use Rattle.doc_json.specs.declared.fault.BodyFault.TheVariants as bad
 use Rattle.doc_json.specs.Bulks.{item_at}
 use Rattle.reply_json.specs.declared.fault.RestFault.{RestFault}
-use Rattle.es_route.specs.Limits.{body_fault}
+use Rattle.es_route.specs.Limits.{body_fault, both, told}
 use Rattle.es_route.specs.Items.{item_and_more, items_from, items_of, onto, read_change, write_of, write_with, checked}
-use Rattle.es_route.specs.Answers.{Answers}
+use Rattle.es_route.specs.Answers.{Answers, and_then}
 
 -- the fault of the items after one is that of all
 checked-onto : (item : BulkItem) (items : Result (List BulkItem) BodyFault) → checked (onto item items) ≡ checked items
@@ -112,12 +114,14 @@ ahead_never_fails index body at left fault there w =
     let e : Err fault ≡ Ok left = sym (from_byte index body at w.most fuel.0 (Err fault) fuel.1 there) ∙ w.are in
     absurd (cc)
 
-name_by : (name id : Bool) (x : Event) (a b : RestFault) (event : Event) → (if name then (if id then Ok x else Err a) else Err b) ≡ Ok event → name ≡ true
-name_by true id x a b event e = refl
-name_by false id x a b event e = absurd (cc)
+name_by : (index id : List ℕ) (change : Change) (name named : Bool) (event : Event)
+    → and_then (told (both (if name then Ok index else Err limit.Index) (if named then Ok id else Err limit.Id))) (λ it. Ok (Write it.0 it.1 change)) ≡ Ok event → name ≡ true
+name_by index id change true named event e = refl
+name_by index id change false true event e = absurd (cc)
+name_by index id change false false event e = absurd (cc)
 
 good_by : (index id : List ℕ) (change : Result Change RestFault) (event : Event) → write_with index id change ≡ Ok event → is_index_name index ≡ true
-good_by index id (Ok change) event e = name_by (is_index_name index) (is_doc_id id) _ _ _ event e
+good_by index id (Ok change) event e = name_by index id change (is_index_name index) (is_doc_id id) event e
 good_by index id (Err fault) event e = absurd (cc)
 
 -- an item whose Write is asked has the name of an index

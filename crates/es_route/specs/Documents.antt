@@ -8,28 +8,29 @@ use Rattle.doc_json.specs.declared.index.IndexSpec.{IndexSpec}
 use Rattle.doc_json.specs.Documents.{doc_of}
 use Rattle.doc_json.specs.Indexes.{index_of}
 use Rattle.reply_json.specs.declared.fault.RestFault.{RestFault}
+use Rattle.reply_json.specs.declared.fault.RestFault.TheVariants as fault
 use Rattle.es_route.specs.declared.ask.Ask.{Ask}
 use Rattle.es_route.specs.declared.ask.Ask.TheVariants as ask
 use Rattle.es_route.specs.Answers.{and_then}
 use Rattle.es_route.specs.Paths.{id_in, index_in}
 use Rattle.es_route.specs.declared.values.Key.TheVariants as key
 use Rattle.es_route.specs.Values.{read_params}
-use Rattle.es_route.specs.Limits.{body_fault, limit_told, named, named_index}
+use Rattle.es_route.specs.Limits.{body_fault, first_with, index_name, named, told}
 use Rattle.es_route.specs.Bodies.{no_body, some_body}
 use Rattle.es_route.specs.Items.{checked, items_of}
 
--- a body that is none comes before a name that is none, and that before a limit of the body
+-- a body that is none comes before all limits
 abbrev pub create_of : List ℕ → Result IndexSpec BodyFault → Result Ask RestFault
-create_of index (Ok spec) = named_index index (ask.Create index spec)
-create_of index (Err (body.Limit name)) = limit_told index name
+create_of index (Ok spec) = and_then (told (index_name index)) (λ name. Ok (ask.Create name spec))
+create_of index (Err (body.Limit name)) = Err (fault.Limit (first_with (index_name index) name))
 create_of index (Err other) = Err (body_fault other)
 
 abbrev pub put_of : List ℕ → List ℕ → Bool → Result Doc BodyFault → Result Ask RestFault
-put_of index id refresh (Ok doc) = named index id (ask.Put index id doc refresh)
+put_of index id refresh (Ok doc) = and_then (named index id) (λ it. Ok (ask.Put it.0 it.1 doc refresh))
 put_of index id refresh (Err fault) = Err (body_fault fault)
 
 abbrev pub remove_of : List ℕ → List ℕ → Bool → Result Ask RestFault
-remove_of index id refresh = named index id (ask.Remove index id refresh)
+remove_of index id refresh = and_then (named index id) (λ it. Ok (ask.Remove it.0 it.1 refresh))
 
 abbrev pub create_asked : Request → Result Ask RestFault
 create_asked request =
@@ -58,4 +59,4 @@ index_bulk_asked request = and_then (index_in request) (λ index. bulk_asked (So
 abbrev pub refresh_asked : Request → Result Ask RestFault
 refresh_asked request =
     and_then (index_in request) (λ index. and_then (read_params [] request.query) (λ values.
-    and_then (no_body request) (λ none. named_index index (ask.Refresh index))))
+    and_then (no_body request) (λ none. and_then (told (index_name index)) (λ name. Ok (ask.Refresh name)))))

@@ -13,6 +13,7 @@ use Rattle.list_machine.specs.declared.event.Change.TheVariants as change
 use Rattle.list_machine.specs.declared.event.Event.{Event}
 use Rattle.list_machine.specs.declared.event.Event.TheVariants as event
 use Rattle.reply_json.specs.declared.fault.RestFault.{RestFault}
+use Rattle.es_route.specs.Answers.{and_then}
 use Rattle.es_route.specs.Limits.{body_fault, named}
 
 abbrev pub onto : BulkItem → Result (List BulkItem) BodyFault → Result (List BulkItem) BodyFault
@@ -51,7 +52,7 @@ read_change (Put line) = put_change (doc_of line)
 read_change Remove = Ok change.Remove
 
 abbrev pub write_with : List ℕ → List ℕ → Result Change RestFault → Result Event RestFault
-write_with index id (Ok change) = named index id (event.Write index id change)
+write_with index id (Ok change) = and_then (named index id) (λ it. Ok (event.Write it.0 it.1 change))
 write_with index id (Err fault) = Err fault
 
 -- the Write of an item, or why it is refused by itself

@@ -7,6 +7,7 @@ use Rattle.ctx_ids.specs.declared.id.Kind.TheVariants as kind
 use Rattle.http_wire.specs.declared.request.Request.{Request}
 use Rattle.doc_json.specs.declared.fault.BodyFault.{BodyFault}
 use Rattle.reply_json.specs.declared.fault.RestFault.{RestFault}
+use Rattle.reply_json.specs.declared.fault.RestFault.TheVariants as fault
 use Rattle.es_route.specs.declared.ask.Ask.{Ask}
 use Rattle.es_route.specs.declared.ask.Ask.TheVariants as ask
 use Rattle.search_json.specs.Pits.{pit_close_of}
@@ -14,13 +15,12 @@ use Rattle.es_route.specs.Answers.{and_then}
 use Rattle.es_route.specs.Paths.{index_in}
 use Rattle.es_route.specs.declared.values.Key.TheVariants as key
 use Rattle.es_route.specs.Values.{needed, read_params}
-use Rattle.es_route.specs.Limits.{body_fault, limit_told, named_index}
+use Rattle.es_route.specs.Limits.{body_fault, first_with, index_name, told}
 use Rattle.es_route.specs.Bodies.{empty_body}
 
--- a name that is none comes before a time that is too long
 abbrev pub opening_of : List ℕ → Option ℕ → Result Ask RestFault
-opening_of index None = limit_told index limit.KeepAlive
-opening_of index (Some keep) = named_index index (ask.OpenPit index keep)
+opening_of index None = Err (fault.Limit (first_with (index_name index) limit.KeepAlive))
+opening_of index (Some keep) = and_then (told (index_name index)) (λ name. Ok (ask.OpenPit name keep))
 
 abbrev pub opening_asked : Request → Result Ask RestFault
 opening_asked request =

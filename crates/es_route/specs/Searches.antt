@@ -1,6 +1,7 @@
 -- What a search asks for.
 use Rattle.std.specs.Prelude.{ℕ, ◌&&◌, ◌||◌, Bool, not, nat_le, if◌then◌else◌, List, Option, Some, None, Result, Ok, Err, codes, [], ◌∷◌, unwrap_or}
 use Rattle.es_types.specs.declared.limits.TheConstants.{LEAST_BATCH, MOST_BATCH, USUAL_BATCH}
+use Rattle.es_types.specs.declared.limit.LimitName.{LimitName}
 use Rattle.es_types.specs.declared.limit.LimitName.TheVariants as limit
 use Rattle.http_wire.specs.declared.request.Request.{Request}
 use Rattle.doc_json.specs.declared.fault.BodyFault.{BodyFault}
@@ -22,7 +23,7 @@ use Rattle.es_route.specs.Params.{has_param, params_of}
 use Rattle.es_route.specs.declared.values.Key.TheVariants as key
 use Rattle.es_route.specs.declared.values.Values.{Values}
 use Rattle.es_route.specs.Values.{read_params}
-use Rattle.es_route.specs.Limits.{body_fault, named_index}
+use Rattle.es_route.specs.Limits.{body_fault, both, first_with, index_name, told}
 use Rattle.es_route.specs.Methods.{gets_or_posts}
 use Rattle.es_route.specs.Pits.{pit_number}
 
@@ -46,13 +47,20 @@ batch_used batch = if is_batch batch then batch else USUAL_BATCH
 abbrev pub index_where : Bool → Request → Result (Option (List ℕ)) RestFault
 index_where has_index request = if has_index then and_then (index_in request) (λ index. Ok (Some index)) else Ok None
 
-abbrev pub index_told : Option (List ℕ) → Result (Option (List ℕ)) RestFault
-index_told None = Ok None
-index_told (Some index) = named_index index (Some index)
+abbrev pub some_name : Result (List ℕ) LimitName → Result (Option (List ℕ)) LimitName
+some_name (Ok name) = Ok (Some name)
+some_name (Err name) = Err name
 
--- the limits that are told before most of the body's: of the index's name, and then of the batch
-abbrev pub limits_told : Option (List ℕ) → ℕ → Result (Option (List ℕ)) RestFault
-limits_told index batch = and_then (index_told index) (λ index. if is_batch batch then Ok index else Err (fault.Limit limit.Batch))
+abbrev pub index_told : Option (List ℕ) → Result (Option (List ℕ)) LimitName
+index_told None = Ok None
+index_told (Some index) = some_name (index_name index)
+
+abbrev pub batch_told : ℕ → Result (Unit {0}) LimitName
+batch_told batch = if is_batch batch then Ok tt else Err limit.Batch
+
+-- what a search is read with beside its body
+abbrev pub read_with : Option (List ℕ) → ℕ → Result (Option (List ℕ) × Unit {0}) LimitName
+read_with index batch = both (index_told index) (batch_told batch)
 
 abbrev pub searched_pit : Option PitRef → SearchRequest → Result Ask RestFault
 searched_pit None request = Err (fault.Limit limit.Pit)
@@ -62,13 +70,11 @@ abbrev pub target_asked : Option (List ℕ) → SearchBody → Result Ask RestFa
 target_asked (Some index) asked = Ok (ask.Search (target.Index index) asked.request None)
 target_asked None asked = searched_pit asked.pit asked.request
 
--- A body that is none comes before all limits, and a text that is no id after them. How long a point in time is kept is told before
--- the batch.
+-- a body that is none comes before all limits, and a text that is no id after them
 abbrev pub search_told : Option (List ℕ) → ℕ → Result SearchBody BodyFault → Result Ask RestFault
-search_told index batch (Ok asked) = and_then (limits_told index batch) (λ index. target_asked index asked)
-search_told index batch (Err (body.Limit limit.KeepAlive)) = and_then (index_told index) (λ index. Err (fault.Limit limit.KeepAlive))
-search_told index batch (Err (body.Limit name)) = and_then (limits_told index batch) (λ index. Err (fault.Limit name))
-search_told index batch (Err body.BadId) = and_then (limits_told index batch) (λ index. Err fault.BadId)
+search_told index batch (Ok asked) = and_then (told (read_with index batch)) (λ it. target_asked it.0 asked)
+search_told index batch (Err (body.Limit name)) = Err (fault.Limit (first_with (read_with index batch) name))
+search_told index batch (Err body.BadId) = and_then (told (read_with index batch)) (λ it. Err fault.BadId)
 search_told index batch (Err other) = Err (body_fault other)
 
 abbrev pub search_asked : Bool → Request → Result Ask RestFault

@@ -9,7 +9,7 @@ ghost use Rattle.es_route.specs.Route.{AsksSound};
 use crate::ask::Ask;
 use crate::bodies::{no_body, some_body};
 use crate::items::check_items;
-use crate::limits::{body_fault, limit_told, named, named_index};
+use crate::limits::{body_fault, first_with, index_name, named, told};
 use crate::paths::{id_in, index_in};
 use crate::values::{Key, read_params};
 use doc_json::{BodyFault, read_doc, read_index};
@@ -24,10 +24,12 @@ fn create_of(alloc: Global, index: Text, body: &[u8]) -> Result<Ask, RestFault>
 {
     match read_index(alloc, body) {
         Ok(spec) => Ok(Ask::Create {
-            index: named_index(index)?,
+            index: told(index_name(index))?,
             spec,
         }),
-        Err(Fail::Is(BodyFault::Limit(name))) => limit_told(index, name),
+        Err(Fail::Is(BodyFault::Limit(name))) => {
+            Err(RestFault::Limit(first_with(index_name(index), name)))
+        }
         Err(Fail::Is(fault)) => Err(body_fault(fault)),
         Err(Fail::NoMemory) => Err(RestFault::NoMemory),
     }
@@ -135,6 +137,6 @@ pub fn refresh_asked(alloc: Global, request: &Request) -> Result<Ask, RestFault>
     let index = index_in(alloc, request)?;
     read_params(alloc, &[], request)?;
     no_body(request)?;
-    let index = named_index(index)?;
+    let index = told(index_name(index))?;
     Ok(Ask::Refresh { index })
 }

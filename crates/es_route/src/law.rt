@@ -1,4 +1,5 @@
-//! What is true of each search of a point in time.
+//! What is true of all requests.
+ghost use Rattle.es_route.specs.Limits.{LeastIsTold};
 ghost use Rattle.es_route.specs.Route.{PitSearchesShowPlaces};
 
 use search_json::pit_bodies_show_places;
@@ -9,3 +10,8 @@ pub fn pit_searches_show_places()
 {
     pit_bodies_show_places();
 }
+
+/// Of any limits that are broken the one that is told has the least rank.
+pub fn least_limit_is_told()
+    ensures { LeastIsTold }
+{}

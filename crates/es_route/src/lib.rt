@@ -20,7 +20,7 @@ mod values;
 
 pub use ask::Ask;
 pub use items::write_of;
-pub use law::pit_searches_show_places;
+pub use law::{least_limit_is_told, pit_searches_show_places};
 pub use moment::told_moment;
 pub use resource::{Resource, routes};
 pub use routing::{route, routed};

@@ -7,7 +7,7 @@ ghost use Rattle.es_route.specs.Route.{AsksSound};
 
 use crate::ask::Ask;
 use crate::bodies::empty_body;
-use crate::limits::{body_fault, limit_told, named_index};
+use crate::limits::{body_fault, first_with, index_name, told};
 use crate::paths::index_in;
 use crate::values::{Key, needed, read_params};
 use ctx_ids::{ContextId, Kind};
@@ -22,9 +22,12 @@ fn opening_of(index: Text, keep: Option<KeepAlive>) -> Result<Ask, RestFault>
     ensures sound { IfOk result AsksSound }
 {
     match keep {
-        None => limit_told(index, LimitName::KeepAlive),
+        None => {
+            let name = first_with(index_name(index), LimitName::KeepAlive);
+            Err(RestFault::Limit(name))
+        }
         Some(keep) => Ok(Ask::OpenPit {
-            index: named_index(index)?,
+            index: told(index_name(index))?,
             keep,
         }),
     }

@@ -3,11 +3,11 @@ ghost use Rattle.std.specs.Prelude.{◌≡◌, ◌≤◌, IfOk};
 ghost use Rattle.search_json.specs.Searches.{search_of};
 ghost use Rattle.list_machine.specs.Run.{IsWithinLimits};
 ghost use Rattle.es_route.specs.Answers.{Answers};
-ghost use Rattle.es_route.specs.Searches.{AreWithinLimits, batch_used, check_search, has_unbuilt, index_told, index_where, is_batch, limits_told, search_asked, search_told, target_asked};
+ghost use Rattle.es_route.specs.Searches.{AreWithinLimits, batch_used, check_search, has_unbuilt, batch_told, index_told, index_where, is_batch, search_asked, search_told, target_asked};
 ghost use Rattle.es_route.specs.Route.{AsksSound};
 
 use crate::ask::Ask;
-use crate::limits::body_fault;
+use crate::limits::{body_fault, both, first_with, index_name, told};
 use crate::methods::gets_or_posts;
 use crate::params::{Param, has_param, params_of};
 use crate::paths::index_in;
@@ -86,27 +86,25 @@ fn index_where(alloc: Global, has_index: bool, request: &Request) -> Result<Opti
     Ok(Some(index_in(alloc, request)?))
 }
 
-fn index_told(index: Option<Text>) -> Result<Option<IndexName>, RestFault>
+fn index_told(index: Option<Text>) -> Result<Option<IndexName>, LimitName>
     ensures { result ≡ index_told index }
 {
     match index {
-        Some(index) => match IndexName::make(index) {
+        Some(index) => match index_name(index) {
             Ok(index) => Ok(Some(index)),
-            Err(_) => Err(RestFault::Limit(LimitName::Index)),
+            Err(name) => Err(name),
         },
         None => Ok(None),
     }
 }
 
-// The index, where its name is one, and the batch may be asked.
-fn limits_told(index: Option<Text>, batch: u32) -> Result<Option<IndexName>, RestFault>
-    ensures { result ≡ limits_told index batch }
+fn batch_told(batch: u32) -> Result<(), LimitName>
+    ensures { result ≡ batch_told batch }
 {
-    let index = index_told(index)?;
     if is_batch(batch) {
-        Ok(index)
+        Ok(())
     } else {
-        Err(RestFault::Limit(LimitName::Batch))
+        Err(LimitName::Batch)
     }
 }
 
@@ -145,23 +143,17 @@ fn search_told(
     ensures answer { result ≡ search_told index batch asked }
     ensures sound { IfOk result AsksSound }
 {
+    let read = both(index_told(index), batch_told(batch));
     match asked {
-        Ok(asked) => match limits_told(index, batch) {
-            Ok(index) => target_asked(index, asked),
-            Err(fault) => Err(fault),
-        },
-        Err(BodyFault::Limit(LimitName::KeepAlive)) => match index_told(index) {
-            Ok(_) => Err(RestFault::Limit(LimitName::KeepAlive)),
-            Err(fault) => Err(fault),
-        },
-        Err(BodyFault::Limit(name)) => match limits_told(index, batch) {
-            Ok(_) => Err(RestFault::Limit(name)),
-            Err(fault) => Err(fault),
-        },
-        Err(BodyFault::BadId) => match limits_told(index, batch) {
-            Ok(_) => Err(RestFault::BadId),
-            Err(fault) => Err(fault),
-        },
+        Ok(asked) => {
+            let (index, _) = told(read)?;
+            target_asked(index, asked)
+        }
+        Err(BodyFault::Limit(name)) => Err(RestFault::Limit(first_with(read, name))),
+        Err(BodyFault::BadId) => {
+            told(read)?;
+            Err(RestFault::BadId)
+        }
         Err(fault) => Err(body_fault(fault)),
     }
 }
