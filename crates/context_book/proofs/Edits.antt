@@ -119,7 +119,7 @@ removed (context ∷ contexts) number (suc at) rises has =
 
 -- ---- one that comes in
 
--- behind the lower numbers and before the higher ones
+-- after the lower numbers and before the higher ones
 pub inserted : (contexts : List Context) (new : Context) (at : ℕ) → All (λ (it : Context). it.number ≢ new.number) contexts
     → IsBorder contexts new.number at
     → insert contexts at new ≡ with_one new contexts

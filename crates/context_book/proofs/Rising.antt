@@ -57,7 +57,7 @@ filter_none p (x ∷ xs) all =
     let here : p x ≡ false = All-head (λ x. p x ≡ false) x xs all in
     rw here (filter_none p xs (All-tail (λ x. p x ≡ false) x xs all))
 
--- the front passes, and what is behind it doesn't
+-- the front passes, and what is after it doesn't
 pub filter_front : {X : Type 0} (p : X → Bool) (xs : List X) (i : ℕ) → i ≤ length xs → AllWithin (λ x. p x ≡ true) xs 0 i
     → AllWithin (λ x. p x ≡ false) xs i (length xs) → filter p xs ≡ take i xs
 filter_front p xs i le passes fails =
@@ -71,7 +71,7 @@ filter_front p xs i le passes fails =
     ∙ ap (λ ys. ys ++ filter p (drop i xs)) (filter_all p (take i xs) front)
     ∙ ap (λ ys. take i xs ++ ys) (filter_none p (drop i xs) back) ∙ append-nil (take i xs)
 
--- the front doesn't pass, and what is behind it does
+-- the front doesn't pass, and what is after it does
 pub filter_back : {X : Type 0} (p : X → Bool) (xs : List X) (i : ℕ) → i ≤ length xs → AllWithin (λ x. p x ≡ false) xs 0 i
     → AllWithin (λ x. p x ≡ true) xs i (length xs) → filter p xs ≡ drop i xs
 filter_back p xs i le fails passes =
@@ -161,7 +161,7 @@ live_there contexts number at moment rises has context is live =
     ∙ ap (λ b. cond b (Some context) None) live
     ∙ ap Some is ∙ sym (slice_get-get_or contexts at context has.within)
 
--- it is live no more
+-- it is no longer live
 pub late_there : (contexts : List Context) (number at moment : ℕ) → Rises contexts → HasNumber contexts number at
     → (context : Context) → context ≡ get_or contexts at context
     → lives moment context ≡ false → live_one number moment contexts ≡ None

@@ -19,7 +19,7 @@ Rises contexts = AllPairs (λ (a b : Context). a.number < b.number) contexts
 abbrev pub seen : Context → Seen
 seen context = pit context.number context.owner.body context.expiry
 
--- whether it is live, or is live no more
+-- whether it is live, or is no longer live
 abbrev pub lives : ℕ → Context → Bool
 lives moment context = is_live moment (seen context)
 

@@ -1,3 +1,4 @@
+//! The points in time by their numbers.
 ghost use Rattle.std.specs.Prelude.{◌≡◌, ◌≢◌, ◌==◌, ◌<◌, ◌↔◌, ◌++◌, ◌∷◌, [], map, drop, filter, count_by, All, Some, None, IfOk, IfErr, OnOk, OnErr, OnSome, IsNone, IsErr, MatchResult, MatchOption, option_map, slice_get};
 ghost use Rattle.context_book.specs.Books.{CanLend, Rises, has_ended, is_closed, is_kept, live_one, lives};
 ghost use Rattle.context_book.specs.Calls.{IsLendFault, IsWhy, lent_by, touched, with_one, without};
@@ -136,7 +137,7 @@ impl ContextBook {
         Ok(Items::of(owners))
     }
 
-    /// Takes out those that are live no more, and hands out their owners, each once. An error comes only where there
+    /// Takes out those that are no longer live, and hands out their owners, each once. An error comes only where there
     /// are such, and leaves the book as it was.
     pub fn reap(&mut self, now: Moment) -> Result<Items<Owner<View>>, NoMemory>
         ensures owners { IfOk result (λ owners. owners ≡ map (λ context. context.owner) (filter (has_ended now) self.old.contexts)) }

@@ -1,3 +1,4 @@
+//! A point in time with its owner.
 ghost use Rattle.std.specs.Prelude.{◌≡◌};
 ghost use Rattle.context_book.specs.declared.context.LendFault.TheVariants.{NoMemory};
 
@@ -25,7 +26,7 @@ impl Context {
     }
 }
 
-/// How far the pages of a scroll are known: behind so many of them, the key of the last hit, where there was one.
+/// How far the pages of a scroll are known: after so many of them, the key of the last hit, where there was one.
 #[derive(Drop)]
 pub struct PageEnd {
     pub pages: u64,

@@ -13,7 +13,7 @@ use std::mem;
 /// Which leave.
 #[derive(Clone, Copy)]
 pub enum Leaving<'a> {
-    /// Those that are live no more.
+    /// Those that are no longer live.
     Ended,
     /// The live ones that are named.
     Closed(&'a Which),

@@ -1,3 +1,4 @@
+//! What a reader sees of a shard.
 ghost use Rattle.std.specs.Prelude.{◌≡◌, ◌≤◌, length, slice_get, option_copied, IfOk};
 ghost use Rattle.es_types.specs.declared.limits.TheConstants.{SHARD_ROWS};
 ghost use Rattle.es_query.specs.Limits.{bounds_of};
@@ -37,7 +38,7 @@ impl ShardView {
         self.rows.as_slice().len() as u64
     }
 
-    /// The row behind that many others.
+    /// The row after that many others.
     pub fn row_at(&self, rank: u32) -> Option<&Row>
         ensures { option_copied result ≡ slice_get self.now.rows rank }
     {

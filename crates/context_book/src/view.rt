@@ -1,3 +1,4 @@
+//! What a reader sees of an index.
 ghost use Rattle.std.specs.Prelude.{◌≡◌, ◌≤◌, length, map, IfOk};
 ghost use Rattle.std.specs.Arc.{arc_value};
 ghost use Rattle.es_types.specs.declared.limits.TheConstants.{ALL_SHARDS};

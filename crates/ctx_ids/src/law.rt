@@ -1,3 +1,4 @@
+//! That no two ids have one text.
 ghost use Rattle.std.specs.Prelude.{◌≡◌, ◌<◌, ◌^◌};
 ghost use Rattle.ctx_ids.specs.declared.id.ContextId.{ContextId};
 ghost use Rattle.ctx_ids.specs.Ids.{text_of};

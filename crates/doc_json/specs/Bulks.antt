@@ -18,7 +18,7 @@ line_in (Some len) rest = if len == 0 then None else Some (take len rest)
 unfoldable pub line_at : List ℕ → ℕ → Option (List ℕ)
 line_at body at = line_in (position (λ b. b == 10) (drop at body)) (drop at body)
 
--- the place behind that line and its line feed
+-- the place after that line and its line feed
 abbrev pub behind : ℕ → List ℕ → ℕ
 behind at line = at + length line + 1
 

@@ -25,7 +25,7 @@ abbrev pub members_of : Members → List Member
 members_of no_members = []
 members_of (member name value rest) = record { name = name; value = value_of value } ∷ members_of rest
 
--- a document is an object, beside its text
+-- a document is an object, together with its text
 abbrev pub doc_in : List ℕ → Data → Result Doc BodyFault
 doc_in source (object fields) = Ok (record { source = source; members = members_of fields })
 doc_in source null = Err Shape

@@ -1,3 +1,4 @@
+//! The body of a bulk.
 ghost use Rattle.std.specs.Prelude.{◌≡◌, ◌+◌, ◌<◌, ◌≤◌, ◌==◌, length, position, option_map, IfOk, IfSome};
 ghost use Rattle.serde_json.specs.View.{view};
 ghost use Rattle.es_types.specs.Fail.{Answers};
@@ -127,7 +128,7 @@ fn index_in<'v>(given: Option<&'v Text>, named: Option<&'v Value>) -> Option<&'v
     }
 }
 
-// What is done behind the action line, and where the next item begins.
+// What is done after the action line, and where the next item begins.
 #[tactic(auto, unfolding(crate::specs::Bulks::change_at))]
 fn change_at(
     alloc: Global,

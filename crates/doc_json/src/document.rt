@@ -1,3 +1,4 @@
+//! The body of a document.
 ghost use Rattle.std.specs.Prelude.{◌≡◌, IfOk};
 ghost use Rattle.serde_json.specs.View.{members_view, view};
 ghost use Rattle.es_types.specs.Fail.{Answers};

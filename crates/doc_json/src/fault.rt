@@ -1,3 +1,4 @@
+//! Why a body is refused.
 use es_types::LimitName;
 
 /// Why a body is refused.

@@ -1,3 +1,4 @@
+//! JSON values, and the shapes that bodies ask of them.
 ghost use Rattle.std.specs.Prelude.{◌≡◌, map, reverse, count_by, is_some, option_map, IfOk};
 ghost use Rattle.serde_json.specs.Find.{get};
 ghost use Rattle.serde_json.specs.View.{view};

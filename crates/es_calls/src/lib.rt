@@ -1,4 +1,4 @@
-//! Each public call of the crates that the machine stands on or beside, called with stated answers: values and fields, ids,
+//! Each public call of the crates that the machine stands on or next to, called with stated answers: values and fields, ids,
 //! queries, sorts, slices, readers, what is outside, and requests on the wire. `es_calls_core` has those of the crates above.
 #![tactic(auto)]
 

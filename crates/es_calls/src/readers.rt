@@ -48,7 +48,7 @@ fn a_shut_alone_ends_a_reader(rt: HostRuntime) -> Result<(), Fail> {
     Ok(())
 }
 
-// The last pass ends it behind the owner and the other pass.
+// The last pass ends it after the owner and the other pass.
 fn a_pass_outlives(rt: &impl Abort, alloc: Global, kept: &Arc<u64>) -> Result<(), Fail> {
     let mut owner = owner_of(alloc, Arc::try_clone(kept)?)?;
     let first = owner.lend(alloc)?;

@@ -13,7 +13,7 @@ struct ValuesText<'a> {
     values: &'a [Value],
 }
 
-// Values in a line, with a blank behind each.
+// Values in a line, with a blank after each.
 impl fmt::Display for ValuesText<'_> {
     fn fmt<W: fmt::Write>(&self, f: &mut fmt::Formatter<W>) -> fmt::Result {
         for value in self.values {
@@ -141,7 +141,7 @@ fn orders_of_keys(rt: HostRuntime) -> Result<(), Fail> {
         ("n", "1 0", "2 0", "<", false),
         ("n shown", "1 0", "1 1", "<", false),
         ("n shown", "1 1", "1 1", "=", false),
-        // The place behind the keys is not shown, so equal values are not after each other.
+        // The place after the keys is not shown, so equal values are not after each other.
         ("n", "1 1", "1 0", ">", false),
         ("n", "2 0", "1 9", ">", true),
         ("n-", "1 0", "2 0", ">", true),
@@ -162,7 +162,7 @@ fn orders_of_keys(rt: HostRuntime) -> Result<(), Fail> {
 }
 
 #[test]
-fn values_to_go_on_behind(rt: HostRuntime) -> Result<(), Fail> {
+fn values_to_go_on_after(rt: HostRuntime) -> Result<(), Fail> {
     let alloc = rt.alloc();
     let mapping = mapping_of_n(alloc)?;
     for (sort, after, want) in [

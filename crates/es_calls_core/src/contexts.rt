@@ -160,7 +160,7 @@ fn contexts_by_their_numbers(rt: HostRuntime) -> Result<(), Fail> {
     Ok(())
 }
 
-// One more is refused with its owner while the one is live, and not behind its last moment.
+// One more is refused with its owner while the one is live, and not after its last moment.
 #[test]
 fn one_too_many(rt: HostRuntime) -> Result<(), Fail> {
     let alloc = rt.alloc();

@@ -145,7 +145,7 @@ fn value(alloc: Global, word: &str) -> Result<Value, NoMemory> {
     }
 }
 
-// The values to go on behind, as `1` or `1,x`.
+// The values to go on after, as `1` or `1,x`.
 fn after(alloc: Global, words: &str) -> Result<Option<Keys>, NoMemory> {
     if words.is_empty() {
         return Ok(None);
@@ -202,7 +202,7 @@ fn batch(by: &str) -> u32
     if by.is_empty() { 512 } else { 2 }
 }
 
-// What a search asks for: two documents of those that match (`find=n/1`), by a field (`sort=n/asc`), behind some values
+// What a search asks for: two documents of those that match (`find=n/1`), by a field (`sort=n/asc`), after some values
 // (`after=1`), of a slice (`slice=0/2`). By a field the first one is left out, and two shards are brought together at a time.
 pub(crate) fn request(alloc: Global, line: &str, show_place: bool) -> Result<SearchRequest, Fail>
     ensures { IfOk result IsWithinLimits }
@@ -245,7 +245,7 @@ fn search(alloc: Global, line: &str) -> Result<Event, Fail>
     Ok(Event::Search { target, request })
 }
 
-// What a line asks for, behind its milliseconds. An index is made with five shards and the whole number `n`:
+// What a line asks for, after its milliseconds. An index is made with five shards and the whole number `n`:
 // create INDEX, put INDEX ID [n=N], remove INDEX ID, publish INDEX SHARD UPTO, seal INDEX, open INDEX TIME, close PIT..,
 // search PIT [keep=TIME] [..], search INDEX [..], quiet [end]. `request` says what else a search may say.
 pub(crate) fn event(alloc: Global, line: &str) -> Result<Event, Fail>

@@ -26,7 +26,7 @@ fn take_step(machine: &mut Machine, entry: Entry) -> Result<Reply, NoMemory>
     machine.step(&entry)
 }
 
-// A quiet lets go what is live no more, which no reply shows, or notes the end of a scroll that isn't there.
+// A quiet lets go what is no longer live, which no reply shows, or notes the end of a scroll that isn't there.
 fn take_quiet(core: &mut Core, moment: Moment, reaps: bool) -> Result<Reply, NoMemory> {
     let chore = if reaps {
         Chore::Reap
@@ -184,7 +184,7 @@ const VIEWS: &str = "
 5 publish docs 0 4 -> done
 5 search 1 -> 2 of 3 docs b 0 docs a 1
 5 search 1 after=1 -> 1 of 3 docs c 2
-# It is live up to one minute behind its opening, and moments never fall.
+# It is live up to one minute after its opening, and moments never fall.
 5 open docs 1m -> too many 1
 60005 search 1 after=2 -> 0 of 3
 60006 search 1 -> missing
@@ -193,7 +193,7 @@ const VIEWS: &str = "
 5 search 2 -> 2 of 2 docs b 0 docs c 1
 ";
 
-// A point in time is kept longer and never shorter, ends behind its last moment, and is closed once.
+// A point in time is kept longer and never shorter, ends after its last moment, and is closed once.
 const KEPT: &str = "
 0 put docs a -> created 1
 0 publish docs 0 1 -> done
@@ -220,7 +220,7 @@ const KEPT: &str = "
 300001 close 2 9 2 -> closed 1
 300001 close 2 -> closed 0
 300001 search 2 -> missing
-# Two are opened of one view; what is published behind shows in the third.
+# Two are opened of one view; what is published after shows in the third.
 300001 open docs 1s -> opened 3
 301002 open docs 1s -> opened 4
 301002 search 3 -> missing

@@ -99,7 +99,7 @@ fn a_page_of_nothing(rt: HostRuntime) -> Result<(), Fail> {
     Ok(())
 }
 
-// Of the place alone, one value to go on behind fits.
+// Of the place alone, one value to go on after fits.
 #[test]
 fn a_refused_search(rt: HostRuntime) -> Result<(), Fail> {
     let mapping = mapping_of_n(rt.alloc())?;

@@ -54,7 +54,7 @@ fn answers(rt: &impl Abort, alloc: Global, plan: Plan, want: &str) -> Result<(),
     Ok(())
 }
 
-// A search that is planned before all that is answered behind it, when the core is gone.
+// A search that is planned before all that is answered after it, when the core is gone.
 fn outlives(rt: &impl Abort, alloc: Global, asked: &str, want: &str) -> Result<(), Fail> {
     let limits = Limits {
         pits: 2,

@@ -339,7 +339,7 @@ fn searches(rt: HostRuntime) -> Result<(), Fail> {
     reads(&rt, alloc, true, QUERIES)
 }
 
-// A sort by the place behind so many keys.
+// A sort by the place after so many keys.
 fn many_keys(alloc: Global, count: usize) -> Result<String, NoMemory> {
     let keys = "\"n\",".repeat(alloc, count)?;
     format!(in alloc; "{{\"sort\":[{keys}\"_doc\"]}}")

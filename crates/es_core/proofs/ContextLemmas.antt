@@ -63,7 +63,7 @@ filter_less p f (x ∷ xs) =
 live_before : (moment later : ℕ) (context : Context) → moment ≤ later → is_live later context ≡ true → is_live moment context ≡ true
 live_before moment later context before live = grind (arith, nat_tests)
 
--- one that is live no more isn't live later
+-- one that is no longer live isn't live later
 dead_later : (moment later : ℕ) (context : Context) → moment ≤ later → is_live moment context ≡ false → is_live later context ≡ false
 dead_later moment later context before dead = grind (arith, nat_tests)
 
@@ -123,10 +123,10 @@ none_live number moment (context ∷ contexts) others =
 rises_later : (context : Context) (contexts : List Context) → SeenRises (context ∷ contexts) → SeenRises contexts
 rises_later context contexts rises = λ i j d less within. rises (suc i) (suc j) d (omega arith) (omega arith)
 
--- behind one of a number none has it
-others_behind : (number : ℕ) (context : Context) (contexts : List Context) → SeenRises (context ∷ contexts) → context.number ≡ number
+-- after one of a number none has it
+others_after : (number : ℕ) (context : Context) (contexts : List Context) → SeenRises (context ∷ contexts) → context.number ≡ number
     → All (λ (it : Context). it.number ≢ number) contexts
-others_behind number context contexts rises is = λ k d within equal. let less = rises zero (suc k) d (omega arith) (omega arith) in omega arith
+others_after number context contexts rises is = λ k d within equal. let less = rises zero (suc k) d (omega arith) (omega arith) in omega arith
 
 -- the live context of a number is the context of it, where that is live
 pub live_context-is : (number moment : ℕ) (contexts : List Context) → SeenRises contexts
@@ -137,7 +137,7 @@ live_context-is number moment (context ∷ contexts) rises =
     ⊎_elim
     (λ (same : eqb context.number number ≡ true).
     let is : context.number ≡ number = grind arith in
-    let above = others_behind number context contexts rises is in
+    let above = others_after number context contexts rises is in
     rw same (elim (is_live moment context) as (λ b. find (has_number number) (cond b (context ∷ filter (is_live moment) contexts) (filter (is_live moment) contexts)) ≡ cond b (Some context) None)
     [ true ↦ rw same refl | false ↦ none_live number moment contexts above ]))
     (λ (other : eqb context.number number ≡ false).
@@ -159,7 +159,7 @@ kept_others moment number keep (context ∷ contexts) others =
     let no : eqb context.number number ≡ false = grind arith in
     rw no (ap (λ them. context ∷ them) rest)
 
--- what follows for those behind the first
+-- what follows for those after the first
 kept_head : (moment later number keep : ℕ) (context : Context) (contexts : List Context) → is_live moment context ≡ true
     → filter (is_live later) (kept moment number keep contexts) ≡ filter (is_live later) (kept moment number keep (filter (is_live moment) contexts))
     → filter (is_live later) (kept moment number keep (context ∷ contexts)) ≡ filter (is_live later) (kept moment number keep (filter (is_live moment) (context ∷ contexts)))
@@ -177,7 +177,7 @@ kept_live moment later number keep (context ∷ contexts) one before rises found
     ⊎_elim
     (λ (same : eqb context.number number ≡ true).
     let is : context.number ≡ number = grind arith in
-    let above = others_behind number context contexts rises is in
+    let above = others_after number context contexts rises is in
     ⊎_elim
     (λ (live : is_live moment context ≡ true).
     kept_head moment later number keep context contexts live
@@ -217,7 +217,7 @@ pub closed_seen : (moment : ℕ) (which : Which) (contexts : List Kept)
     → contexts_seen (filter (is_kept moment which) contexts) ≡ filter (λ (context : Context). not (is_closing moment which context)) (contexts_seen contexts)
 closed_seen moment which contexts = sym (filter_map (λ (context : Context). not (is_closing moment which context)) seen contexts)
 
--- those that are live behind a closing are those that were, without the closed ones
+-- those that are live after a closing are those that were, without the closed ones
 pub closed_live : (moment later : ℕ) (which : Which) (contexts : List Context)
     → filter (is_live later) (map (close_one moment which) contexts) ≡ filter (λ (context : Context). not (is_closing moment which context)) (filter (is_live later) contexts)
 closed_live moment later which [] = refl

@@ -38,7 +38,7 @@ lent_more n most contexts less all = All-weaker (lent n) (lent most) (λ context
 lends_same : (old new : List Context) → new ≡ old → Lends old new
 lends_same old new same n all = subst (AllLent (n + 1)) (sym same) (lent_more n (n + 1) old (omega arith) all)
 
--- what holds of all contexts holds of those behind a chore
+-- what holds of all contexts holds of those after a chore
 left_all : (P : Context → Type 0) (chore : Chore) (moment : ℕ) (contexts : List Context) → All P contexts → All P (left_by chore moment contexts)
 left_all P Reap moment contexts all = All-filter (lives moment) P contexts all
 left_all P (NoteEnd number end) moment contexts all = all

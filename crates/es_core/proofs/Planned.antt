@@ -111,7 +111,7 @@ indexes_want (Seal index) moment contexts alone (Err e) = tt
 indexes_want (Publish index shard upto) moment contexts alone (Err e) = tt
 indexes_want other moment contexts alone (Err e) = absurd alone
 
--- where memory may be wanting at an event, whatever a call answers that wants it
+-- where memory may run out at an event, whatever a call answers that wants it
 pub may_want : (event named : Event) (moment : ℕ) (contexts : List Kept) → event ≡ named → TurnMayWant named moment contexts → {A E : Type 0} (r : Result A E)
     → OnErr r (TurnMayWant event moment contexts)
 may_want event named moment contexts is wants (Ok value) = tt

@@ -31,10 +31,10 @@ missed moment number None request o contexts none = refl
 missed moment number (Some keep) request o contexts none = rw none refl
 
 -- what is kept longer where a search of the live one fits, or doesn't
-pub kept_behind : (moment number : ℕ) (keep : Option ℕ) (request : SearchRequest) (one : Kept) (answered : Bool) (o : Option Context) (old new : List Context)
+pub kept_after : (moment number : ℕ) (keep : Option ℕ) (request : SearchRequest) (one : Kept) (answered : Bool) (o : Option Context) (old new : List Context)
     → o ≡ Some (seen one) → is_fit one.owner.body request ≡ answered
     → new ≡ kept_on_answer moment number keep answered old → new ≡ kept_on_answer moment number keep (is_answered request o) old
-kept_behind moment number keep request one answered o old new some says now =
+kept_after moment number keep request one answered o old new some says now =
     now ∙ ap (λ (b : Bool). kept_on_answer moment number keep b old) (sym says ∙ sym (ap (is_answered request) some))
 
 -- where no search is answered nothing is kept longer

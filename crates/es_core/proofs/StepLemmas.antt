@@ -128,7 +128,7 @@ contexts_hold old new moment state contexts same holds alike = record {
   contexts = alike;
 }
 
--- the contexts behind a search, where the same were live before
+-- the contexts after a search, where the same were live before
 kept_same : (moment number : ℕ) (keep : Option ℕ) (request : SearchRequest) (o : Option Context) (xs ys : List Context) → SeenRises xs → SeenRises ys
     → live_context number moment xs ≡ o → ((later : ℕ) → moment ≤ later → filter (is_live later) xs ≡ filter (is_live later) ys)
     → (later : ℕ) → moment ≤ later
@@ -242,15 +242,15 @@ opened state keep index = record state {
   contexts = state.contexts ++ new_context state.next (view_of index) (state.moment + keep) ∷ [];
 }
 
--- the next number behind an opening
-abbrev pub next_behind : Reply → ℕ → ℕ
-next_behind reply next = cond (is_opened reply) (next + 1) next
+-- the next number after an opening
+abbrev pub next_after : Reply → ℕ → ℕ
+next_after reply next = cond (is_opened reply) (next + 1) next
 
--- a core behind an opening: as many may be live as its limits say
+-- a core after an opening: as many may be live as its limits say
 pub record IsOpening (old new : Core) (moment : ℕ) (view : View) (expiry : ℕ) (reply : Reply) : Type 0 where
   pub limits_are : new.limits ≡ old.limits
   pub limited : old.book.limit ≡ old.limits.pits
-  pub next : new.next ≡ next_behind reply old.next
+  pub next : new.next ≡ next_after reply old.next
   pub indexes : new.catalog ≡ old.catalog
   pub contexts : opening moment old.next view expiry old.book.limit (contexts_seen old.book.contexts) ≡ (contexts_seen new.book.contexts, reply)
 
@@ -286,7 +286,7 @@ open_steps old new moment name keep view expiry reply finds ends opens state hol
     (λ (full : eqb (count_by (is_live moment) cs) old.book.limit ≡ true).
     let chosen : Bool → List Context × Reply = λ b. cond b (cs, TooMany old.book.limit) (cs ++ new_context old.next view expiry ∷ [], Opened old.next) in
     let both = pairs cs (contexts_seen new.book.contexts) (TooMany old.book.limit) reply (sym (ap chosen full) ∙ opens.contexts) in
-    let same : new.next ≡ old.next = opens.next ∙ ap (λ it. next_behind it old.next) (sym both.1) in
+    let same : new.next ≡ old.next = opens.next ∙ ap (λ it. next_after it old.next) (sym both.1) in
     let made : Bool → State × Reply = λ b. cond b (state, TooMany old.book.limit) (opened state keep index, Opened old.next) in
     let replied : Reply → State × Reply = λ it. (state, it) in
     steps_to old new moment (OpenPit name keep) reply state state (is ∙ ap made full ∙ ap replied both.1)
@@ -295,7 +295,7 @@ open_steps old new moment name keep view expiry reply finds ends opens state hol
     (λ (room : eqb (count_by (is_live moment) cs) old.book.limit ≡ false).
     let chosen : Bool → List Context × Reply = λ b. cond b (cs, TooMany old.book.limit) (cs ++ new_context old.next view expiry ∷ [], Opened old.next) in
     let both = pairs (cs ++ new_context old.next view expiry ∷ []) (contexts_seen new.book.contexts) (Opened old.next) reply (sym (ap chosen room) ∙ opens.contexts) in
-    let more : new.next ≡ old.next + 1 = opens.next ∙ ap (λ it. next_behind it old.next) (sym both.1) in
+    let more : new.next ≡ old.next + 1 = opens.next ∙ ap (λ it. next_after it old.next) (sym both.1) in
     let made : Bool → State × Reply = λ b. cond b (state, TooMany old.book.limit) (opened state keep index, Opened old.next) in
     let replied : Reply → State × Reply = λ it. (opened state keep index, it) in
     let last : new_context old.next view expiry ≡ new_context state.next (view_of index) (state.moment + keep) =
@@ -327,14 +327,14 @@ pub record Known : Type 0 where
   pub limits_are : (limits : Limits) (history : History) → (state_of limits history).limits ≡ limits
   pub counted : (limits : Limits) (history : History) → All (λ (entry : Entry). IsBounded entry.event) history → IsCounted (length history) (state_of limits history)
 
--- the shards of the contexts behind a short history can be counted
+-- the shards of the contexts after a short history can be counted
 few_shards : (n : ℕ) (state : State) → IsCounted n state → n < 9007199254740992 → sum_by (λ (context : Context). length context.view.shards) state.contexts ≤ 18446744073709551615
 few_shards n state counted short =
     let all = sum_by-le (λ (context : Context). length context.view.shards) 1024 state.contexts
     (All-weaker (λ (context : Context). IsViewSmall context.view) (λ (context : Context). length context.view.shards ≤ 1024) (λ context is. is.few) state.contexts counted.views) in
     omega (arith, all, counted.many)
 
--- a state behind a short history is small, at any moment
+-- a state after a short history is small, at any moment
 known_small : Known → (limits : Limits) (history : History) (moment : ℕ) → All (λ (entry : Entry). IsBounded entry.event) history → length history < 9007199254740992
     → HasSmallNumbers (at_moment (state_of limits history) moment)
 known_small known limits history moment bounded short =
@@ -376,19 +376,19 @@ pub turn_stands : Known → (old stepped new : Core) (event : Event) (moment lat
 turn_stands known old stepped new event moment later reply is steps lends moved object bounded limits history who stands short =
     let entry : Entry = record { who = who; moment = moment; event = event } in
     let next : State = (step (state_of limits history) entry).0 in
-    let behind : state_of limits (history ++ entry ∷ []) ≡ next = run-push (start limits) history entry in
+    let reached : state_of limits (history ++ entry ∷ []) ≡ next = run-push (start limits) history entry in
     let before : Holds old later (at_moment (state_of limits history) moment) =
     subst (λ (at : ℕ). Holds old at (at_moment (state_of limits history) moment)) (sym is) (stands_holds known limits old history moment stands) in
     let done = steps (at_moment (state_of limits history) moment) before (known_small known limits history moment stands.bounded short) (lent_few (length history) old.book.contexts short stands.lent) in
     let holds : Holds stepped later next = done.0 in (
       record {
-        limits_are = moved.limits_are ∙ holds.limits_are ∙ ap (λ (it : State). it.limits) (sym behind) ∙ known.limits_are limits (history ++ entry ∷ []);
-        moment = moved.moment_is ∙ sym holds.moment_is ∙ ap (λ (it : State). it.moment) (sym behind);
-        next = moved.next ∙ holds.next ∙ ap (λ (it : State). it.next) (sym behind);
-        indexes = moved.indexes ∙ holds.indexes ∙ ap (λ (it : State). it.indexes) (sym behind);
+        limits_are = moved.limits_are ∙ holds.limits_are ∙ ap (λ (it : State). it.limits) (sym reached) ∙ known.limits_are limits (history ++ entry ∷ []);
+        moment = moved.moment_is ∙ sym holds.moment_is ∙ ap (λ (it : State). it.moment) (sym reached);
+        next = moved.next ∙ holds.next ∙ ap (λ (it : State). it.next) (sym reached);
+        indexes = moved.indexes ∙ holds.indexes ∙ ap (λ (it : State). it.indexes) (sym reached);
         contexts = λ at l.
-            let from : later ≤ at = omega (arith, holds.moment_is, ap (λ (it : State). it.moment) behind) in
-            ap (λ (it : Book). filter (is_live at) (contexts_seen it.contexts)) moved.book ∙ holds.contexts at from ∙ ap (λ (it : State). filter (is_live at) it.contexts) (sym behind);
+            let from : later ≤ at = omega (arith, holds.moment_is, ap (λ (it : State). it.moment) reached) in
+            ap (λ (it : Book). filter (is_live at) (contexts_seen it.contexts)) moved.book ∙ holds.contexts at from ∙ ap (λ (it : State). filter (is_live at) it.contexts) (sym reached);
         lent = subst (λ (it : Book). AllLent (length (history ++ entry ∷ [])) it.contexts) (sym moved.book)
             (lent_next (length history) (length (history ++ entry ∷ [])) old.book.contexts stepped.book.contexts (length-append history (entry ∷ [])) lends stands.lent);
         objects = All-push (λ (it : Entry). PutsObject it.event) history entry stands.objects object;
@@ -412,14 +412,14 @@ same_stands old new same limits history stands = record {
 
 -- ---- quiets
 
--- a quiet changes nothing that a state says, and what is live no more may go
+-- a quiet changes nothing that a state says, and what is no longer live may go
 quiet_steps : (old new : Core) (moment : ℕ) → IsKeptCore old new
     → ((later : ℕ) → moment ≤ later → filter (is_live later) (contexts_seen new.book.contexts) ≡ filter (is_live later) (contexts_seen old.book.contexts))
     → Steps old new moment Quiet Done
 quiet_steps old new moment same alike state holds small few =
     (contexts_hold old new moment state state.contexts same holds (λ later from. alike later from ∙ holds.contexts later from), refl)
 
--- what is live behind a chore is what was live
+-- what is live after a chore is what was live
 left_alike : (chore : Chore) (moment later : ℕ) (contexts : List Kept) → moment ≤ later
     → filter (is_live later) (contexts_seen (left_by chore moment contexts)) ≡ filter (is_live later) (contexts_seen contexts)
 left_alike Reap moment later contexts from =

@@ -58,7 +58,7 @@ abbrev pub is_answered : SearchRequest → Option Context → Bool
 is_answered request None = false
 is_answered request (Some context) = is_fit context.view request
 
--- the contexts behind it: that of the number is kept longer, where that is asked
+-- the contexts after it: that of the number is kept longer, where that is asked
 abbrev pub kept_on_answer : ℕ → ℕ → Option ℕ → Bool → List Context → List Context
 kept_on_answer moment number None answered contexts = contexts
 kept_on_answer moment number (Some keep) answered contexts = if answered then map (keep_one moment number keep) contexts else contexts
@@ -75,12 +75,12 @@ AllLent n contexts = All (λ (context : Kept). context.owner.lent ≤ n) context
 abbrev pub AllCanLend : List Kept → Type 0
 AllCanLend contexts = All (λ (context : Kept). context.owner.lent < MOST_ENTRIES) contexts
 
--- the contexts behind a chore: at a reaping those that are live stay, and no other chore changes any
+-- the contexts after a chore: at a reaping those that are live stay, and no other chore changes any
 abbrev pub left_by : Chore → ℕ → List Kept → List Kept
 left_by Reap moment contexts = filter (lives moment) contexts
 left_by (NoteEnd number end) moment contexts = contexts
 
--- memory may be wanting at a reaping alone, where a context is live no more
+-- memory may run out at a reaping alone, where a context is no longer live
 abbrev pub MayWant : Chore → ℕ → List Kept → Type 0
 MayWant Reap moment contexts = 0 < count_by (has_ended moment) contexts
 MayWant (NoteEnd number end) moment contexts = ⊥

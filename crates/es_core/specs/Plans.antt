@@ -1,4 +1,4 @@
--- What turns hand out to be run beside the core, and what the running gives.
+-- What turns hand out to be run outside the core, and what the running gives.
 use Rattle.std.specs.Prelude.{◌≡◌, ℕ, ◌+◌, ◌*◌, ◌==◌, Bool, true, false, if◌then◌else◌, List, filter, map, Option, None, Some, MatchOption, option_map}
 use Rattle.reader_gate.specs.Readers.{Held}
 use Rattle.context_book.specs.declared.context.Context.{Context as Kept}

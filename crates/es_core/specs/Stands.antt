@@ -13,7 +13,7 @@ use Rattle.es_core.specs.Contexts.{AllLent, contexts_seen}
 use Rattle.es_core.specs.Plans.{turned_reply}
 
 -- The core stands for the state that the history leads to: its indexes, next number, moment and limits are those of
--- the state, and so are the contexts that are live at its moment or at a later one. Those that are live no more may be gone. Each
+-- the state, and so are the contexts that are live at its moment or at a later one. Those that are no longer live may be gone. Each
 -- owner has lent at most as many passes as there are entries.
 pub record Stands (limits : Limits) (core : Core) (history : History) : Type 0 where
   pub limits_are : core.limits ≡ limits
@@ -27,7 +27,7 @@ pub record Stands (limits : Limits) (core : Core) (history : History) : Type 0 w
   pub bounded : All (λ (entry : Entry). IsBounded entry.event) history
 
 -- Whatever history the core stood for, of fewer than 2^53 entries, it now stands for that history and the entry,
--- and what it answers, at once or by its plan, is the machine's reply behind that history.
+-- and what it answers, at once or by its plan, is the machine's reply after that history.
 abbrev pub Turns : Core → Core → Event → ℕ → Turned → Type 0
 Turns old new event moment turned =
     (limits : Limits) (history : History) (who : ℕ) → Stands limits old history → length history < MOST_ENTRIES

@@ -24,7 +24,7 @@ pub record HasSmallNumbers (state : State) : Type 0 where
   pub differ : AllPairs (λ (a b : Context). a.number < b.number) state.contexts
   pub shards : sum_by (λ (context : Context). length context.view.shards) state.contexts ≤ 18446744073709551615
 
--- whatever small state the core held, it now holds the one behind the event, and the reply is the machine's, unless an owner has
+-- whatever small state the core held, it now holds the one after the event, and the reply is the machine's, unless an owner has
 -- lent as many passes as one may
 abbrev pub Steps : Core → Core → ℕ → Event → Reply → Type 0
 Steps old new moment event reply =

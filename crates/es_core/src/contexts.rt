@@ -1,3 +1,4 @@
+//! What events do to the points in time of the book.
 ghost use Rattle.std.specs.Prelude.{◌≡◌, ◌≢◌, ◌<◌, ◌≤◌, ℕ, true, None, Some, min, length, map, filter, sum_by, count_by, All, IfOk, MatchOption, OnOk, OnErr};
 ghost use Rattle.std.specs.Arc.{arc_value};
 ghost use Rattle.context_book.specs.Books.{CanLend, Rises, has_ended, is_closed, is_kept, live_one, lives};
@@ -130,7 +131,7 @@ fn lend(book: &mut ContextBook, moment: Moment, number: u64) -> Result<Pass<View
 {
     match book.lend(number, moment) {
         Ok(pass) => Ok(pass),
-        // The context is live, so that memory alone is wanting.
+        // The context is live, so only memory can have run out.
         Err(_) => Err(NoMemory),
     }
 }
@@ -188,7 +189,7 @@ pub fn do_chore(book: &mut ContextBook, chore: Chore, moment: Moment) -> Result<
     }
 }
 
-/// Lets the contexts go that are live no more. An error comes only where there are such, and leaves the book as it was.
+/// Lets the contexts go that are no longer live. An error comes only where there are such, and leaves the book as it was.
 fn reap(book: &mut ContextBook, moment: Moment) -> Result<(), NoMemory>
     ensures kept { OnOk result (book.new ≡ record book.old { contexts = filter (lives moment) book.old.contexts }) }
     ensures some { OnErr result (0 < count_by (has_ended moment) book.old.contexts) }

@@ -1,3 +1,4 @@
+//! One index: its shards, and for each what is kept of it for readers.
 ghost use Rattle.std.specs.Prelude.{◌≡◌, ◌≤◌, length, map, replicate, slice_get, All, IfOk, IsSome, OnOk, OnErr, None};
 ghost use Rattle.std.specs.Arc.{arc_value};
 ghost use Rattle.std.proofs.Props.{props};

@@ -1,3 +1,4 @@
+//! Searches of an index as it is now.
 ghost use Rattle.std.specs.Prelude.{◌≡◌, IfOk, option_map};
 ghost use Rattle.list_machine.specs.declared.event.Event.TheVariants.{Search};
 ghost use Rattle.list_machine.specs.Changes.{Moves};

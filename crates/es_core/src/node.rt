@@ -1,3 +1,4 @@
+//! The core, and which call takes an event.
 ghost use Rattle.std.specs.Prelude.{◌≡◌, ◌+◌, ◌<◌, [], max, All, IfOk, OnOk, OnErr, option_map};
 ghost use Rattle.es_types.specs.declared.limits.TheConstants.{MOST_ENTRIES};
 ghost use Rattle.es_core.specs.Contexts.{AllLent};
@@ -127,8 +128,8 @@ impl Core {
         Ok(reply)
     }
 
-    /// Takes the step of a Quiet, and does a chore, which no reply shows: at a reaping exactly the contexts that are live no more are
-    /// let go. After `NoMemory`, which comes at a reaping alone, where a context is live no more, the core stands for what it stood for,
+    /// Takes the step of a Quiet, and does a chore, which no reply shows: at a reaping exactly the contexts that are no longer live are
+    /// let go. After `NoMemory`, which comes at a reaping alone, where a context is no longer live, the core stands for what it stood for,
     /// and its book is as it was.
     pub fn quiet(&mut self, chore: Chore, moment: Moment) -> Result<Gathered, NoMemory>
         ensures rests { OnOk result (Rests self.old self.new moment) }

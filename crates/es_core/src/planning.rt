@@ -1,3 +1,4 @@
+//! The plans of searches.
 ghost use Rattle.std.specs.Prelude.{◌≡◌, IfOk};
 ghost use Rattle.std.specs.Arc.{arc_value};
 ghost use Rattle.es_core.specs.Plans.{IsFirstPage, first_page};

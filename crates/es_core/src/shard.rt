@@ -1,3 +1,4 @@
+//! One shard: rows, waiting operations, and the ids that have a row once all are applied.
 ghost use Rattle.std.specs.Prelude.{◌≡◌, ◌+◌, ◌<◌, ◌≤◌, ◌^◌, ◌-◌, ℕ, List, [], false, length, min, IfOk, OnOk, OnErr};
 ghost use Rattle.std.specs.BTreeSet.{contains_text};
 ghost use Rattle.es_types.specs.declared.limits.TheConstants.{MOST_ENTRIES};

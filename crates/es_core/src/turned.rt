@@ -1,3 +1,4 @@
+//! What a turn takes and answers.
 use context_book::{PageEnd, View};
 use list_machine::{Reply, SearchRequest};
 use reader_gate::Pass;
@@ -29,10 +30,10 @@ pub enum Turned {
     Later(Plan),
 }
 
-/// What a quiet does beside.
+/// What a quiet does besides.
 #[derive(Drop)]
 pub enum Chore {
-    /// Lets the contexts go that are live no more.
+    /// Lets the contexts go that are no longer live.
     Reap,
     /// Notes how far the pages of the scroll of that number are known. There are no scrolls yet, so it notes nothing.
     NoteEnd { number: u64, end: PageEnd },

@@ -1,3 +1,4 @@
+//! What a reader sees of each shard.
 ghost use Rattle.std.specs.Prelude.{◌≡◌, map, All, IfOk, IsSome, OnOk, Some};
 ghost use Rattle.context_book.specs.Shards.{bounds_in, rows_of_each};
 ghost use Rattle.list_machine.specs.Seen.Stores.{bounds_of_each};

@@ -1,4 +1,4 @@
--- Two runs over the same requests give the same responses, whatever Quiets stand beside what was asked.
+-- Two runs over the same requests give the same responses, whatever Quiets stand between what was asked.
 use Rattle.std.proofs.Common.{◌≡◌, refl, sym, ap, ap₂, subst, ◌∙◌, ⊎_elim, Bool, true, false, ℕ, ◌+◌, ◌*◌, List, [], ◌∷◌, None, Result, Ok, Err}
 use Rattle.std.specs.Prelude.{◌≢◌}
 use Rattle.std.proofs.lemmas.List.Elements.{All-head, All-tail}
@@ -23,7 +23,7 @@ use Rattle.es_rest.specs.Talk.{Conversation, Exchange, Responds, Served, Serves,
 use Rattle.es_node.proofs.AtMoment.{alike_later, state_at}
 use Rattle.es_node.proofs.Grown.{Fits, Grew, asked_comes, asked_grew, beside_grew, beside_passes, fits_before, grew_not, grew_on}
 
--- a moment finds one state behind both histories
+-- a moment finds one state after both histories
 abbrev AreAlike : Limits → ℕ → History → History → Type 0
 AreAlike limits moment one other = state_at limits one moment ≡ state_at limits other moment
 
@@ -35,7 +35,7 @@ stay_alike limits moment old past new other alike same too =
 
 -- ---- one conversation
 
--- asked behind histories that are alike, an event is answered alike
+-- asked after histories that are alike, an event is answered alike
 asked_alike : (limits : Limits) (moment : ℕ) (old past new other : History) (event : Event) (reply said : Reply)
     → AreAlike limits moment old past
     → Fits limits new → Fits limits other → Asked limits 0 4 old new (asked 0 moment event) reply

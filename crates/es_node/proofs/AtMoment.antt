@@ -10,7 +10,7 @@ use Rattle.list_machine.specs.State.{State}
 use Rattle.list_machine.specs.Step.{at_moment, happen, step}
 use Rattle.list_machine.specs.Run.{History, run, state_of}
 
--- the state behind a history, as a moment finds it
+-- the state after a history, as a moment finds it
 abbrev pub state_at : Limits → History → ℕ → State
 state_at limits history moment = at_moment (state_of limits history) moment
 

@@ -1,4 +1,4 @@
--- Histories that grow by entries of one seat, and by Quiets beside them.
+-- Histories that grow by entries of one seat, and by Quiets next to them.
 use Rattle.std.proofs.Common.{◌≡◌, refl, sym, ap, subst, ◌∙◌, ⊎_elim, ℕ, [], ◌∷◌, ◌++◌, length, arith, append_assoc, length-append}
 use Rattle.std.specs.Prelude.{All, ◌≢◌}
 use Rattle.std.proofs.lemmas.List.{append-nil}
@@ -65,7 +65,7 @@ fits_before limits old new grew fits =
       room = omega (arith, long, length-append old grew.0, fits.room);
     }
 
--- ---- what is beside
+-- ---- what stands next to it
 
 abbrev IsNotAsked : Entry → Type 0
 IsNotAsked entry = entry.who ≢ asking 0
@@ -86,21 +86,21 @@ own_quiet moment (entry ∷ more) own none quiet =
     (own_quiet moment more (All-tail IsOwn entry more own) (All-tail IsNotAsked entry more none)
     (All-tail (IsQuietBeside moment) entry more quiet))
 
--- the state behind a history that grew
-behind : (limits : Limits) (old more new : History) → new ≡ old ++ more → state_of limits new ≡ run (state_of limits old) more
-behind limits old more new grows = ap (state_of limits) grows ∙ run-append old more (start limits)
+-- the state after a history that grew
+run_on : (limits : Limits) (old more new : History) → new ≡ old ++ more → state_of limits new ≡ run (state_of limits old) more
+run_on limits old more new grows = ap (state_of limits) grows ∙ run-append old more (start limits)
 
--- what grew beside leaves what the moment finds
+-- what grew besides leaves what the moment finds
 pub beside_passes : (limits : Limits) (most moment : ℕ) (old new : History) → AreOwn new → GrowsBeside 0 most moment old new
     → state_at limits new moment ≡ state_at limits old moment
 beside_passes limits most moment old new own h =
     let mine : AreOwn h.more = all_back IsOwn old h.more (subst AreOwn h.grows own) in
-    ap (λ (s : State). at_moment s moment) (behind limits old h.more new h.grows)
+    ap (λ (s : State). at_moment s moment) (run_on limits old h.more new h.grows)
     ∙ quiets_pass moment h.more (state_of limits old) (own_quiet moment h.more mine h.beside.none_asked h.beside.quiet)
 
 -- ---- what is asked
 
--- what an event makes of a history: the reply, and what the moment finds behind it
+-- what an event makes of a history: the reply, and what the moment finds after it
 pub record Comes (limits : Limits) (moment : ℕ) (old new : History) (event : Event) (reply : Reply) : Type 0 where
   pub reply_is : reply ≡ (happen (state_at limits old moment) event).1
   pub state_is : state_at limits new moment ≡ at_moment (happen (state_at limits old moment) event).0 moment
@@ -121,10 +121,10 @@ answered_comes limits moment old new event reply own h =
     (all_back IsNotAsked before after beside.none_asked) (all_back (IsQuietBeside moment) before after beside.quiet) in
     let mid = old ++ before in
     let found : state_at limits mid moment ≡ state_at limits old moment
-    = ap (λ (s : State). at_moment s moment) (behind limits old before mid refl)
+    = ap (λ (s : State). at_moment s moment) (run_on limits old before mid refl)
     ∙ quiets_pass moment before (state_of limits old) first in
     let then : state_at limits new moment ≡ at_moment (step (state_of limits mid) entry).0 moment
-    = ap (λ (s : State). at_moment s moment) (behind limits mid (entry ∷ after) new h.adds.grows)
+    = ap (λ (s : State). at_moment s moment) (run_on limits mid (entry ∷ after) new h.adds.grows)
     ∙ quiets_pass moment after (step (state_of limits mid) entry).0 last in
     record {
       reply_is = h.is ∙ ap (λ (s : State). (happen s event).1) found;

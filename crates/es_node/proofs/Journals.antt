@@ -117,7 +117,7 @@ stayed limits old new history now running same stays =
     subst (λ (l : History). IsRunning limits new l) (sym stays)
     (record { stands = same limits history running.stands; kept = running.kept; own = running.own })
 
--- the service goes on, whether the step was taken or memory was wanted
+-- the service goes on, whether the step was taken or memory ran out
 pub runs_on : (limits : Limits) (moment : ℕ) (event : Event) (old new : Core) (history now : History)
     {E : Type 0} (r : Result Turned E)
     → IsRunning limits old history → length history < limits.entries
@@ -133,7 +133,7 @@ runs_on limits moment event old new history now (Err e) running room object adva
 
 -- ---- tidying
 
--- and behind it, too
+-- and after it, too
 pub rests_on : (limits : Limits) (moment : ℕ) (old new : Core) (history now : History) {E : Type 0} (r : Result (Unit {0}) E)
     → IsRunning limits old history → length history < limits.entries
     → OnOk r (Rests old new moment) → OnOk r (now ≡ history ++ rest moment ∷ []) → OnErr r (StandsOn old new)
@@ -145,7 +145,7 @@ rests_on limits moment old new history now (Ok done) running room rests grows sa
 rests_on limits moment old new history now (Err e) running room rests grows same stays =
     stayed limits old new history now running same stays
 
--- one Quiet beside what was asked
+-- one Quiet besides what was asked
 beside_one : (most moment : ℕ) → Beside 0 (4 + most) moment (rest moment ∷ [])
 beside_one most moment =
     let entry = rest moment in

@@ -40,7 +40,7 @@ moments_of served = map (λ (x : Exchange). x.moment) served
 abbrev pub responses_of : List Exchange → List Response
 responses_of served = map (λ (x : Exchange). x.response) served
 
--- no response is the one that memory is wanting
+-- no response is the one that memory ran out
 abbrev pub NeverWants : List Exchange → Type 0
 NeverWants served = All (λ (x : Exchange). x.response ≢ Fault fault.NoMemory) served
 
@@ -58,7 +58,7 @@ pub record ServesAlone (limits : Limits) (history : History) (served : List Exch
   pub never_fall : NeverFalls 0 served
   pub ample : NeverWants served
 
--- the run ended neither by a fault nor by want of memory
+-- the run ended neither by a fault nor by lack of memory
 abbrev pub EndsItself : Status → Type 0
 EndsItself Done = Unit {0}
 EndsItself Refused = Unit {0}

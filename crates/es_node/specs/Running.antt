@@ -50,7 +50,7 @@ pub record ServedOne (left after written now : Option (List ℕ)) (status : Stat
   pub greatest : ℕ
   pub headline : Headline limits 0 [] history left after written now (Some 0) 0 greatest end
 
--- memory was wanted before anything was read or written
+-- memory ran out before anything was read or written
 pub record NoneServed (left after written now : Option (List ℕ)) (status : Status) : Type 0 where
   pub status_is : status ≡ NoMemory
   pub left_is : after ≡ left

@@ -1,3 +1,4 @@
+//! What is true of two runs over the same requests.
 ghost use Rattle.std.specs.Prelude.{◌≡◌, ℕ, List, Option, Some};
 ghost use Rattle.list_machine.specs.declared.event.Limits.{Limits};
 ghost use Rattle.list_machine.specs.Run.{History};

@@ -1,3 +1,4 @@
+//! The run of the program over any input and output.
 ghost use Rattle.std.specs.Prelude.{◌≡◌, ◌<◌, ◌↔◌, true, false};
 ghost use Rattle.es_outside.specs.Told.{Rose};
 ghost use Rattle.es_node.specs.Repeats.{Completes};

@@ -1,3 +1,4 @@
+//! The service with one caller.
 ghost use Rattle.std.specs.Prelude.{◌≡◌, ◌+◌, ◌*◌, ◌<◌, length, ◌≤◌, ◌^◌, ◌++◌, [], ◌∷◌, max, IfOk, OnOk, OnErr};
 ghost use Rattle.es_types.specs.declared.limits.TheConstants.{MOST_ENTRIES};
 ghost use Rattle.list_machine.specs.Run.{IsBounded, PutsObject, state_of};
@@ -71,7 +72,7 @@ impl Solo {
     }
 }
 
-// The reply that a turn gives, or that the running of its plan gives beside the core.
+// The reply that a turn gives, or that the running of its plan gives outside the core.
 fn answer(alloc: Global, turned: Turned) -> Result<Reply, NoMemory>
     requires { CanAnswer turned }
     ensures { IfOk result (λ reply. reply ≡ turned_reply turned) }
@@ -82,7 +83,7 @@ fn answer(alloc: Global, turned: Turned) -> Result<Reply, NoMemory>
     }
 }
 
-// Takes the step of an entry and writes it down. Nothing changes where memory is wanted.
+// Takes the step of an entry and writes it down. Nothing changes where memory runs out.
 fn advance(core: &mut Core, journal: &mut Vec<Entry>, entry: Entry) -> Result<Turned, NoMemory>
     requires object { PutsObject entry.event }
     requires bounded { IsBounded entry.event }
@@ -100,7 +101,7 @@ fn advance(core: &mut Core, journal: &mut Vec<Entry>, entry: Entry) -> Result<Tu
     }
 }
 
-// Lets go what is over, and writes down the Quiet of it. Nothing changes where memory is wanted.
+// Lets go what is over, and writes down the Quiet of it. Nothing changes where memory runs out.
 fn reap(core: &mut Core, journal: &mut Vec<Entry>, moment: Moment) -> Result<(), NoMemory>
     ensures rests { OnOk result (Rests core.old core.new moment) }
     ensures left { OnOk result (core.new.book.contexts ≡ left_by Chore.Reap (max core.old.moment moment) core.old.book.contexts) }

@@ -5,7 +5,7 @@ use crate::session::{
 use std::alloc::Global;
 use std::test::Fail;
 
-// Pages go on behind the places.
+// Pages go on after the places.
 const EQUAL: &str = r#"
 POST /_search {"pit":{"id":"UAAAAAAAAAAB"},"size":2,"sort":["n"]}
 200 {"pit_id":"UAAAAAAAAAAB","took":0,"timed_out":false,"_shards":{"total":2,"successful":2,"skipped":0,"failed":0},"hits":{"total":{"value":6,"relation":"eq"},"max_score":null,"hits":[{"_index":"t","_id":"a","_score":null,"_source":{"n":7},"sort":[7,0]},{"_index":"t","_id":"c","_score":null,"_source":{"n":7},"sort":[7,1]}]}}
@@ -24,7 +24,7 @@ fn equal_documents(rt: HostRuntime) -> Result<(), Fail> {
     plays(&rt, alloc, text.as_str())
 }
 
-// A document without the value, and what a search goes on behind.
+// A document without the value, and what a search goes on after.
 const MISSING: &str = r#"
 PUT /m {"mappings":{"properties":{"n":{"type":"long"}}}}
 200 {"acknowledged":true,"shards_acknowledged":true,"index":"m"}
@@ -201,7 +201,7 @@ fn hit_json(alloc: Global, hit: &str) -> Result<String, Fail> {
     )?)
 }
 
-// What the hits before the page show last, so that it goes on behind that.
+// What the hits before the page show last, so that it goes on after that.
 fn after_of(alloc: Global, before: Option<&&str>) -> Result<String, Fail> {
     match before {
         Some(hit) => {

@@ -119,8 +119,8 @@ impl Source for Endless {
         if let Some(rest) = LONG_HEAD.get(self.at..) {
             put(room, rest);
         }
-        if let Some(behind) = room.get_mut(LONG.saturating_sub(self.at)..) {
-            put(behind, LONG_HEAD);
+        if let Some(rest) = room.get_mut(LONG.saturating_sub(self.at)..) {
+            put(rest, LONG_HEAD);
         }
         self.at = self.at.wrapping_add(count) % LONG;
         Ok(count)

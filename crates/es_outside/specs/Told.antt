@@ -21,7 +21,7 @@ abbrev pub Gives : Option (List ℕ) → Option (List ℕ) → List ℕ → ℕ 
 Gives None after room count = Unit {0}
 Gives (Some bytes) after room count = Read bytes after room count
 
--- the first count bytes of the piece stand behind what was written, where that is told
+-- the first count bytes of the piece stand after what was written, where that is told
 abbrev pub Takes : Option (List ℕ) → Option (List ℕ) → List ℕ → ℕ → Type 0
 Takes None after piece count = Unit {0}
 Takes (Some written) after piece count = after ≡ Some (written ++ take count piece)

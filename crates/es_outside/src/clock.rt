@@ -1,3 +1,4 @@
+//! What time it is.
 ghost use Rattle.std.specs.Prelude.{◌≡◌, ℕ, max, Option, Some};
 ghost use Rattle.es_outside.specs.Told.{Answers};
 ghost use Rattle.es_outside.specs.Memory.{Dial};

@@ -1,3 +1,4 @@
+//! A source and a sink together.
 ghost use Rattle.std.specs.Prelude.{◌≡◌, ℕ, ◌<◌, ◌≤◌, List, [], ◌∷◌, length, Option, IfOk, OnOk, OnErr};
 ghost use Rattle.es_outside.specs.Told.{Gives, Rose, Takes};
 

@@ -1,3 +1,4 @@
+//! Where bytes go.
 ghost use Rattle.std.specs.Prelude.{◌≡◌, ◌⊎◌, ◌↔◌, ℕ, ◌<◌, ◌≤◌, [], List, length, Option, Some, Contains, IfOk, OnOk, OnErr, IsErr, MatchResult};
 ghost use Rattle.es_outside.specs.Told.{Rose, Takes};
 ghost use Rattle.es_outside.specs.Memory.{Drain, counted, taken, took, took_none};

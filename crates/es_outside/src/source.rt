@@ -1,3 +1,4 @@
+//! Where bytes come from.
 ghost use Rattle.std.specs.Prelude.{◌≡◌, ℕ, ◌<◌, ◌≤◌, ◌↔◌, List, length, take, drop, min, Option, Some, Contains, IfOk, OnOk, OnErr, IsErr, MatchResult};
 ghost use Rattle.es_outside.specs.Told.{Gives, Rose};
 ghost use Rattle.es_outside.specs.Memory.{Feed, counted, gave, gave_none, given};

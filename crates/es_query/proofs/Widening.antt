@@ -42,7 +42,7 @@ pub longs_widened : (found : Option (ℤ × ℤ)) (number : ℤ) (next : ℤ × 
 longs_widened None number next bound is given = rw (is, given.0, given.1) refl
 longs_widened (Some it) number next bound is given = rw (is, given.0, given.1) refl
 
--- the bound of one more field behind those so far
+-- the bound of one more field after those so far
 pub field_more : (fields : List Field) (rows : List Row) (so_far : List Bound) (at : ℕ) (field : Field) (next : Bound) → at < length fields → field ≡ get_or fields at field → next ≡ bound_of (values_at field.kind at rows) → so_far ++ bounds_from at (drop at fields) rows ≡ (so_far ++ next ∷ []) ++ bounds_from (at + 1) (drop (at + 1) fields) rows
 field_more fields rows so_far at field next in_range read is =
     let dropped : drop at fields ≡ field ∷ drop (at + 1) fields = drop_more fields at field in_range ∙ ap (λ field. field ∷ drop (at + 1) fields) (sym read) in

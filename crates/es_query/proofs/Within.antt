@@ -174,18 +174,18 @@ each_within f (row ∷ rows) bound within =
 place_within : (kind : FieldKind) (place : ℕ) (rows : List Row) → All (λ row. AreWithin (first_of kind (drop place row.values)) (bound_of (values_at kind place rows))) rows
 place_within kind place rows = each_within (λ row. first_of kind (drop place row.values)) rows (bound_of (values_at kind place rows)) (within_bound kind (values_at kind place rows) (values_are kind place rows))
 
-abbrev behind : List Value → List Value
-behind [] = []
-behind (value ∷ values) = values
+abbrev but_first : List Value → List Value
+but_first [] = []
+but_first (value ∷ values) = values
 
-drop_behind : (place : ℕ) (values : List Value) → drop (suc place) values ≡ behind (drop place values)
-drop_behind zero [] = refl
-drop_behind zero (value ∷ values) = refl
-drop_behind (suc place) [] = refl
-drop_behind (suc place) (value ∷ values) = drop_behind place values
+drop_more : (place : ℕ) (values : List Value) → drop (suc place) values ≡ but_first (drop place values)
+drop_more zero [] = refl
+drop_more zero (value ∷ values) = refl
+drop_more (suc place) [] = refl
+drop_more (suc place) (value ∷ values) = drop_more place values
 
 module _ (name : List ℕ) where
-  field_within : (field : Field) (fields : List Field) (values : List Value) (here later : Bound) (test : Bool) → bytes_eq field.name name ≡ test → AreWithin (first_of field.kind values) here → AreWithin (values_in fields (behind values) name) later → AreWithin (values_in (field ∷ fields) values name) (cond (bytes_eq field.name name) here later)
+  field_within : (field : Field) (fields : List Field) (values : List Value) (here later : Bound) (test : Bool) → bytes_eq field.name name ≡ test → AreWithin (first_of field.kind values) here → AreWithin (values_in fields (but_first values) name) later → AreWithin (values_in (field ∷ fields) values name) (cond (bytes_eq field.name name) here later)
   field_within field fields [] here later test is first rest = tt
   field_within field fields (value ∷ values) here later true is first rest = rw is first
   field_within field fields (value ∷ values) here later false is first rest = rw is rest
@@ -194,7 +194,7 @@ module _ (name : List ℕ) where
   fields_within [] place rows = λ k row in_range. tt
   fields_within (field ∷ fields) place rows = λ k d in_range.
       let row = get_or rows k d in
-      let next : drop (place + 1) row.values ≡ behind (drop place row.values) = ap (λ n. drop n row.values) (add-one place) ∙ drop_behind place row.values in
+      let next : drop (place + 1) row.values ≡ but_first (drop place row.values) = ap (λ n. drop n row.values) (add-one place) ∙ drop_more place row.values in
       let later = subst (λ (values : List Value). AreWithin (values_in fields values name) (bound_in fields (bounds_from (place + 1) fields rows) name)) next (fields_within fields (place + 1) rows k d in_range) in
       field_within field fields (drop place row.values) (bound_of (values_at field.kind place rows)) (bound_in fields (bounds_from (place + 1) fields rows) name) (bytes_eq field.name name) refl (place_within field.kind place rows k d in_range) later
 

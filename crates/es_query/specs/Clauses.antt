@@ -4,7 +4,7 @@ use Rattle.std.specs.List.{list_all, list_any}
 use Rattle.es_query.specs.declared.query.Need.{Need}
 use Rattle.es_query.specs.declared.query.Need.TheVariants.{Usual, AtLeast}
 
--- how many of so many `should` have to match, beside so many `must` and `filter`
+-- how many of so many `should` have to match, next to so many `must` and `filter`
 abbrev pub needed : Need → ℕ → ℕ → ℕ → ℕ
 needed (AtLeast n) must filter should = n
 needed Usual must filter should = if must == 0 && (filter == 0 && nat_lt 0 should) then 1 else 0

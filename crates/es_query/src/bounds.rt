@@ -1,3 +1,4 @@
+//! The bounds of rows, field by field.
 ghost use Rattle.std.specs.Prelude.{◌≡◌, [], ◌∷◌, drop, IfOk, MatchOption};
 ghost use Rattle.std.specs.Int.{int_max, int_min};
 ghost use Rattle.es_query.specs.Limits.{bound_of, bounds_of, first_of, greater, lesser, values_at};

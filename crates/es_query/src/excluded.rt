@@ -1,3 +1,4 @@
+//! Whether bounds exclude a query.
 ghost use Rattle.std.specs.Prelude.{◌≡◌, map, length, count_by, not, MatchOption};
 ghost use Rattle.std.specs.List.{list_any};
 ghost use Rattle.es_query.specs.Excluded.{bool_excluded, bound_in, excluded, furthest, is_beyond, range_excluded, ruled_out, term_excluded};

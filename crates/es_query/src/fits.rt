@@ -1,3 +1,4 @@
+//! Whether a query fits a mapping.
 ghost use Rattle.std.specs.Prelude.{◌≡◌, ◌&&◌, MatchResult, IsTrue, IsFalse};
 ghost use Rattle.std.specs.List.{list_all};
 ghost use Rattle.es_query.specs.Fits.{fits, suits};

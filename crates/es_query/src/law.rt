@@ -1,3 +1,4 @@
+//! That rows whose bounds exclude a query don't match it.
 ghost use Rattle.std.specs.Prelude.{List, All, IsTrue, IsFalse};
 ghost use Rattle.es_types.specs.declared.mapping.Field.{Field};
 ghost use Rattle.es_types.specs.declared.row.Row.{Row};

@@ -1,3 +1,4 @@
+//! Whether a row matches a query.
 ghost use Rattle.std.specs.Prelude.{◌≡◌, map, count_by, length};
 ghost use Rattle.std.specs.List.{list_all, list_any};
 ghost use Rattle.es_query.specs.Clauses.{holds, needed};

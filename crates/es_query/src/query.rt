@@ -1,3 +1,4 @@
+//! Queries.
 ghost use Rattle.std.specs.Prelude.{◌≡◌, IfOk};
 
 use es_types::{Copied, Items, NoMemory, Text, Value};
@@ -19,7 +20,7 @@ pub struct Edge {
     pub value: Value,
 }
 
-/// How many of the `should` of a bool query have to match. Usually it is one where they stand alone, and none beside a `must`
+/// How many of the `should` of a bool query have to match. Usually it is one where they stand alone, and none next to a `must`
 /// or a `filter`.
 #[derive(Clone, Copy)]
 pub enum Need {

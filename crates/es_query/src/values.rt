@@ -1,3 +1,4 @@
+//! How a value compares with those of a query.
 ghost use Rattle.std.specs.Prelude.{◌≡◌};
 ghost use Rattle.es_query.specs.Values.{compared, is_equal, meets, on_side};
 

@@ -21,6 +21,6 @@ none_by : (name bytes : List ℕ) (b : Bool) → is_utf8 bytes ≡ b → (IsUtf8
 none_by name bytes true is none = absurd (none (IsUtf8-from_is_utf8 bytes is))
 none_by name bytes false is none = refl
 
--- a part that is none
+-- a part that isn't one
 pub decoded_err : (name part : List ℕ) → (IsUtf8 (percent_decode part) → ⊥) → decoded name part ≡ Err (BadParam name)
 decoded_err name part none = none_by name (percent_decode part) (is_utf8 (percent_decode part)) refl none

@@ -19,7 +19,7 @@ use Rattle.es_route.specs.Limits.{body_fault, first_with, index_name, named, tol
 use Rattle.es_route.specs.Bodies.{no_body, some_body}
 use Rattle.es_route.specs.Items.{checked, items_of}
 
--- a body that is none comes before all limits
+-- a body that isn't one comes before all limits
 abbrev pub create_of : List ℕ → Result IndexSpec BodyFault → Result Ask RestFault
 create_of index (Ok spec) = and_then (told (index_name index)) (λ name. Ok (ask.Create name spec))
 create_of index (Err (body.Limit name)) = Err (fault.Limit (first_with (index_name index) name))

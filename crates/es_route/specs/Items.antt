@@ -38,7 +38,7 @@ abbrev pub items_in : Result (List BulkItem) BodyFault → List BulkItem
 items_in (Ok items) = items
 items_in (Err fault) = []
 
--- the items of a bulk, or the fault of the first that is none
+-- the items of a bulk, or the fault of the first that isn't one
 abbrev pub checked : Result (List BulkItem) BodyFault → Result (Unit {0}) RestFault
 checked (Ok items) = Ok tt
 checked (Err fault) = Err (body_fault fault)

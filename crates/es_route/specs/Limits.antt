@@ -34,7 +34,7 @@ both (Ok one) (Err name) = Err name
 both (Err name) (Ok other) = Err name
 both (Err one) (Err other) = Err (first_of one other)
 
--- the limit that is told where this one is broken, and perhaps one of a part that was read beside it
+-- the limit that is told where this one is broken, and perhaps one of a part that was read with it
 abbrev pub first_with : {A : Type 0} → Result A LimitName → LimitName → LimitName
 first_with (Ok part) name = name
 first_with (Err other) name = first_of other name

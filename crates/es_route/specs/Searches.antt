@@ -58,7 +58,7 @@ index_told (Some index) = some_name (index_name index)
 abbrev pub batch_told : ℕ → Result (Unit {0}) LimitName
 batch_told batch = if is_batch batch then Ok tt else Err limit.Batch
 
--- what a search is read with beside its body
+-- what a search is read with besides its body
 abbrev pub read_with : Option (List ℕ) → ℕ → Result (Option (List ℕ) × Unit {0}) LimitName
 read_with index batch = both (index_told index) (batch_told batch)
 
@@ -70,7 +70,7 @@ abbrev pub target_asked : Option (List ℕ) → SearchBody → Result Ask RestFa
 target_asked (Some index) asked = Ok (ask.Search (target.Index index) asked.request None)
 target_asked None asked = searched_pit asked.pit asked.request
 
--- a body that is none comes before all limits, and a text that is no id after them
+-- a body that isn't one comes before all limits, and a text that is no id after them
 abbrev pub search_told : Option (List ℕ) → ℕ → Result SearchBody BodyFault → Result Ask RestFault
 search_told index batch (Ok asked) = and_then (told (read_with index batch)) (λ it. target_asked it.0 asked)
 search_told index batch (Err (body.Limit name)) = Err (fault.Limit (first_with (read_with index batch) name))

@@ -63,7 +63,7 @@ abbrev pub value_or_fault : {A : Type 0} → Option A → (A → Result A RestFa
 value_or_fault None more fault = Err fault
 value_or_fault (Some value) more fault = more value
 
--- The values that these parameters give, beside those that were given before them: the first that isn't taken, stands there
+-- The values that these parameters give, besides those that were given before them: the first that isn't taken, stands there
 -- again or has no such value is a fault.
 abbrev pub values_in : List Key → Values → List Param → Result Values RestFault
 values_in taken values [] = Ok values

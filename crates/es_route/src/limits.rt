@@ -48,7 +48,7 @@ pub fn both<A: Drop, B: Drop>(
     }
 }
 
-/// The limit that is told where this one is broken, and perhaps one of a part that was read beside it.
+/// The limit that is told where this one is broken, and perhaps one of a part that was read with it.
 pub fn first_with<A: Drop>(part: Result<A, LimitName>, name: LimitName) -> LimitName
     ensures { result ≡ first_with part name }
 {

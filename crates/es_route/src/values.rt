@@ -134,7 +134,7 @@ fn with_param(taken: &[Key], values: Values, param: &Param) -> Option<Values>
     }
 }
 
-// The values that these parameters give, beside those that were given before them.
+// The values that these parameters give, besides those that were given before them.
 fn values_in(
     alloc: Global,
     taken: &[Key],

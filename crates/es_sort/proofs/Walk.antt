@@ -46,7 +46,7 @@ then_nothing Less = refl
 then_nothing Equal = refl
 then_nothing Greater = refl
 
--- the first values at a place decide, and then those behind it
+-- the first values at a place decide, and then those after it
 values_at : (key : SortKey) (keys : List SortKey) (xs ys : List Value) (at : ℕ) → values_order (key ∷ keys) (drop at xs) (drop at ys) ≡ ordering_then (order_at key.down key.missing_first (slice_get xs at) (slice_get ys at)) (values_order keys (drop (at + 1) xs) (drop (at + 1) ys))
 values_at key keys xs ys at = rw (← slice_get-drop at xs, ← slice_get-drop at ys, ← drop-drop 1 at xs, ← drop-drop 1 at ys) (first_decides key keys (drop at xs) (drop at ys))
 

@@ -1,4 +1,4 @@
--- Which sorts fit a mapping, and which values a sort can go on behind.
+-- Which sorts fit a mapping, and which values a sort can go on after.
 use Rattle.std.specs.Prelude.{Bool, true, false, ◌&&◌, is_some, List, [], ◌∷◌, Option, Some, None}
 use Rattle.std.specs.List.{list_all}
 use Rattle.es_types.specs.declared.mapping.Field.{Field}

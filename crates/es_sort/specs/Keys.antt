@@ -23,7 +23,7 @@ lists_place keys = list_any (λ key. is_place key.by) keys
 abbrev pub place_key : SortKey
 place_key = record { by = by.Place; down = false; missing_first = false }
 
--- keys with the place behind them, or without it
+-- keys with the place after them, or without it
 abbrev pub with_place : Bool → List SortKey → List SortKey
 with_place true keys = keys ++ place_key ∷ []
 with_place false keys = keys

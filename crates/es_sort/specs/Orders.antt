@@ -16,7 +16,7 @@ abbrev pub turned : Bool → Ordering → Ordering
 turned false order = order
 turned true order = ordering_reverse order
 
--- where a missing value stands beside one that isn't
+-- where a missing value stands next to one that isn't
 abbrev pub of_missing : Bool → Ordering
 of_missing true = Less
 of_missing false = Greater
@@ -41,7 +41,7 @@ order_at down missing_first None (Some b) = Less
 order_at down missing_first (Some a) None = Greater
 order_at down missing_first (Some a) (Some b) = value_order down missing_first a b
 
--- two lists of values by these keys; what goes on behind the keys is not looked at, and what ends before them stands first
+-- two lists of values by these keys; what goes on after the keys is not looked at, and what ends before them stands first
 abbrev pub values_order : List SortKey → List Value → List Value → Ordering
 values_order [] xs ys = Equal
 values_order (key ∷ keys) [] [] = Equal

@@ -1,3 +1,4 @@
+//! Values after which a page begins.
 ghost use Rattle.std.specs.Prelude.{◌≡◌, MatchResult, IsTrue, IsFalse};
 ghost use Rattle.es_sort.specs.Fits.{after_fits, is_of_or_missing, take_each, takes};
 ghost use Rattle.es_sort.specs.Keys.{with_place};
@@ -6,7 +7,7 @@ use crate::key::shows_implied;
 use crate::{Keys, SortBy, SortKey, SortSpec};
 use es_types::{FieldKind, Mapping, Value};
 
-/// Values behind which no page of the sort can begin: too many or too few, or one of another kind than its key's.
+/// Values after which no page of the sort can begin: too many or too few, or one of another kind than its key's.
 #[derive(Drop)]
 pub struct BadAfter;
 
@@ -30,7 +31,7 @@ impl SortSpec {
     }
 }
 
-// Whether the values are one for each key, and one for the place behind them where it counts.
+// Whether the values are one for each key, and one for the place after them where it counts.
 fn take_each(keys: &[SortKey], place: bool, mapping: &Mapping, values: &[Value]) -> bool
     ensures { result ≡ take_each mapping.now (with_place place keys.now) values.now }
 {

@@ -1,3 +1,4 @@
+//! Whether a sort fits a mapping.
 ghost use Rattle.std.specs.Prelude.{◌≡◌, MatchResult, IsTrue, IsFalse};
 ghost use Rattle.std.specs.List.{list_all};
 ghost use Rattle.es_sort.specs.Fits.{is_mapped, sort_fits};

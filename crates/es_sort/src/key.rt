@@ -1,3 +1,4 @@
+//! The key of a row.
 ghost use Rattle.std.specs.Prelude.{◌≡◌, ◌<◌, ◌^◌, not, ◌&&◌, take, IfOk};
 ghost use Rattle.es_sort.specs.Keys.{full_key, is_place, lists_place, shown, shown_key, value_by, values_by};
 
@@ -65,7 +66,7 @@ pub fn shows_implied(sort: &SortSpec) -> bool
     sort.show_place && !lists_place(sort.keys.as_slice())
 }
 
-// The values of a row for these keys, with room for the place behind them.
+// The values of a row for these keys, with room for the place after them.
 fn values_by(
     alloc: Global,
     mapping: &Mapping,

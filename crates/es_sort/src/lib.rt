@@ -1,4 +1,4 @@
-//! Sorts: by which keys the rows of a search are ordered, and where a row stands behind given values. `specs/` says both as
+//! Sorts: by which keys the rows of a search are ordered, and where a row stands after given values. `specs/` says both as
 //! an order of keys.
 #![tactic(auto)]
 

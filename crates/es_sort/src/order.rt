@@ -1,3 +1,4 @@
+//! The order of keys.
 ghost use Rattle.std.specs.Prelude.{◌≡◌};
 ghost use Rattle.std.specs.Option.{option_copied};
 ghost use Rattle.es_sort.specs.Keys.{with_place};
@@ -38,7 +39,7 @@ impl SortSpec {
     }
 }
 
-// How two lists of values compare by these keys, and by the place behind them where it counts.
+// How two lists of values compare by these keys, and by the place after them where it counts.
 fn order(keys: &[SortKey], place: bool, a: &[Value], b: &[Value]) -> Ordering
     ensures { result ≡ values_order (with_place place keys.now) a.now b.now }
 {
@@ -88,7 +89,7 @@ fn turned(down: bool, order: Ordering) -> Ordering
     if down { order.reverse() } else { order }
 }
 
-// Where a missing value stands beside one that isn't.
+// Where a missing value stands next to one that isn't.
 fn of_missing(first: bool) -> Ordering
     ensures { result ≡ of_missing first }
 {

@@ -1,3 +1,4 @@
+//! Sorts and their keys.
 use es_types::{Copied, Items, NoMemory, Text, Value};
 use std::alloc::Global;
 
@@ -25,8 +26,8 @@ pub struct SortSpec {
     pub show_place: bool,
 }
 
-/// The values that a row has for the keys of a sort, in their order, and its place behind them where that is no key. Or values
-/// to go on behind, as many as a hit shows.
+/// The values that a row has for the keys of a sort, in their order, and its place after them where that is no key. Or values
+/// to go on after, as many as a hit shows.
 #[derive(Drop)]
 pub struct Keys {
     pub values: Items<Value>,

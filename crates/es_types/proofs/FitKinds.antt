@@ -33,7 +33,7 @@ value_kind kind.Long (doc.Key text) value e = absurd (cc)
 value_kind kind.Key doc.Other value e = absurd (cc)
 value_kind kind.Long doc.Other value e = absurd (cc)
 
--- so are a value of one field and those of the fields behind it
+-- so are a value of one field and those of the fields after it
 before_kinds : (number : ℕ) (field : Field) (fields : List Field) (one : Result Value DocCause) (rest : Result (List Value) DocFault)
     → ((value : Value) → one ≡ Ok value → IsOfKind field.kind value) → ((values : List Value) → rest ≡ Ok values → AreValuesOf fields values)
     → (values : List Value) → before number one rest ≡ Ok values → AreValuesOf (field ∷ fields) values

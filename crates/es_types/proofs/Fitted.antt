@@ -10,7 +10,7 @@ use Rattle.es_types.specs.declared.fit.DocFault.{DocFault}
 use Rattle.es_types.specs.declared.mapping.Field.{Field}
 use Rattle.es_types.specs.declared.row.Value.{Value}
 
--- the values so far in front of those of the fields behind, or the fault among these
+-- the values so far in front of those of the fields after, or the fault among these
 abbrev pub after : List Value → Result (List Value) DocFault → Result (List Value) DocFault
 after values (Ok rest) = Ok (values ++ rest)
 after values (Err fault) = Err fault

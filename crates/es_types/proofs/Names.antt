@@ -40,7 +40,7 @@ pub rest_rises : (field : Field) (fields : List Field) → names_rise (field ∷
 rest_rises field [] rise = refl
 rest_rises field (next ∷ fields) rise = (both_from_and (is_lt (by_bytes field.name next.name)) _ rise).1
 
--- a name is below all those behind it
+-- a name is below all those after it
 pub below_rest : (field : Field) (fields : List Field) → names_rise (field ∷ fields) ≡ true → All (λ later. by_bytes field.name later.name ≡ Less) fields
 below_rest field [] rise = All-nil _
 below_rest field (next ∷ fields) rise =
@@ -82,7 +82,7 @@ pub bytes_eq_false : (a b : List ℕ) (test : Bool) → bytes_eq a b ≡ test �
 bytes_eq_false a b true is differs = absurd (differs ((bytes_eq-Decides a b).0 is))
 bytes_eq_false a b false is differs = refl
 
--- a field is below each one that stands behind it
+-- a field is below each one that stands after it
 below_later : (fields : List Field) (k at : ℕ) (d : Field) → names_rise fields ≡ true → k < at → at < length fields → by_bytes (get_or fields k d).name (get_or fields at d).name ≡ Less
 below_later [] k at d rise before in_range = absurd (omega arith)
 below_later (field ∷ fields) k zero d rise before in_range = absurd (omega arith)

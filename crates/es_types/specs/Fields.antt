@@ -45,7 +45,7 @@ abbrev pub value_named : List ℕ → List Member → DocValue
 value_named name [] = doc.Null
 value_named name (member ∷ members) = if bytes_eq member.name name then member.value else value_named name members
 
--- the value of a field in front of those of the fields behind it, or the first fault
+-- the value of a field in front of those of the fields after it, or the first fault
 abbrev pub before : ℕ → Result Value DocCause → Result (List Value) DocFault → Result (List Value) DocFault
 before field (Err cause) rest = Err (record { field = field; cause = cause })
 before field (Ok value) (Err fault) = Err fault

@@ -1,3 +1,4 @@
+//! Between which values the rows of a list lie.
 use crate::{Copied, Items, NoMemory, Text};
 use std::alloc::Global;
 

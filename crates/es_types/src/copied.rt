@@ -1,3 +1,4 @@
+//! Values that are copied by asking for memory.
 ghost use Rattle.std.specs.Prelude.{◌≡◌, IfOk};
 
 use crate::NoMemory;

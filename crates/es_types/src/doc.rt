@@ -1,3 +1,4 @@
+//! Documents and their values.
 use crate::{Bytes, Copied, Items, NoMemory, Text};
 use std::alloc::Global;
 

@@ -1,10 +1,11 @@
+//! Why a call fails: for a reason of its own, or since memory ran out.
 ghost use Rattle.std.specs.Prelude.{◌≡◌};
 ghost use Rattle.es_types.specs.declared.fail.Fail.TheVariants.{NoMemory};
 
 pub use std::alloc::AllocError as NoMemory;
 use std::alloc::AllocFailed;
 
-/// Why a call failed: for a reason of its own, or for want of memory.
+/// Why a call failed: for a reason of its own, or since memory ran out.
 #[derive(Drop)]
 pub enum Fail<E> {
     Is(E),

@@ -1,3 +1,4 @@
+//! The values that a document gives the fields of a mapping.
 ghost use Rattle.std.specs.Prelude.{◌≡◌, ◌≤◌, length, map, List, IfOk, IsTrue};
 ghost use Rattle.es_types.specs.declared.limits.TheConstants.{MAPPING_FIELDS};
 ghost use Rattle.es_types.specs.declared.doc.Member.{Member};
@@ -14,7 +15,7 @@ use std::alloc::Global;
 /// The longest text of a keyword, in bytes.
 const LONGEST_KEY: usize = 32766;
 
-/// Why a value is none of its field.
+/// Why a value is not one of its field.
 #[derive(Clone, Copy)]
 pub enum DocCause {
     /// It is of another kind.

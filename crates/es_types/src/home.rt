@@ -1,3 +1,4 @@
+//! The shard of an id.
 ghost use Rattle.std.specs.Prelude.{◌≡◌, ◌<◌, ◌≤◌};
 ghost use Rattle.es_types.specs.Homes.{hash_of, shard_of};
 

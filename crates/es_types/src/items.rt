@@ -1,3 +1,4 @@
+//! Lists.
 ghost use Rattle.std.specs.Prelude.{◌≡◌, IfOk};
 
 use crate::{Copied, NoMemory};

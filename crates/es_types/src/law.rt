@@ -1,3 +1,4 @@
+//! What is true of the values of every document.
 ghost use Rattle.std.specs.Prelude.{◌≡◌, List, Ok};
 ghost use Rattle.es_types.specs.declared.doc.Member.{Member};
 ghost use Rattle.es_types.specs.declared.mapping.Field.{Field};

@@ -1,3 +1,4 @@
+//! The limits that a request may break.
 /// A limit that a request may break.
 #[derive(Clone, Copy)]
 pub enum LimitName {
@@ -15,9 +16,9 @@ pub enum LimitName {
     KeepAlive,
     /// How many shards make a batch, of which the number of phases is counted: 2 to 1,024.
     Batch,
-    /// A point in time beside an index, or neither of them, or a slice without a point in time.
+    /// A point in time together with an index, or neither of them, or a slice without a point in time.
     Pit,
-    /// Hits to leave out, beside values behind which the page begins.
+    /// Hits to leave out, together with values after which the page begins.
     From,
     /// How many hits a search leaves out and asks for: at most 10,000 together.
     Window,

@@ -1,3 +1,4 @@
+//! The fields of an index.
 ghost use Rattle.std.specs.Prelude.{◌≡◌, ◌+◌, ◌<◌, [], bytes_eq, length, slice_index_or, MatchResult, IsTrue, IsFalse};
 ghost use Rattle.std.specs.Cmp.Lexicographic.{slice_cmp};
 ghost use Rattle.std.specs.List.{position};

@@ -1,3 +1,4 @@
+//! Names of indexes and fields, and ids of documents.
 ghost use Rattle.std.specs.Prelude.{◌≡◌, ◌==◌, not, MatchResult, IsTrue, IsFalse};
 ghost use Rattle.std.specs.List.{list_all};
 ghost use Rattle.es_types.specs.Name.{is_doc_id, is_field_name, is_index_byte, is_index_name, is_lower_or_digit};

@@ -1,3 +1,4 @@
+//! Rows, their values, and operations.
 use crate::{Bytes, Copied, DocId, Items, NoMemory, Text};
 use std::alloc::Global;
 

@@ -1,3 +1,4 @@
+//! Texts.
 ghost use Rattle.std.specs.Prelude.{◌≡◌, string_bytes};
 
 use crate::{Copied, NoMemory};

@@ -1,3 +1,4 @@
+//! The value that a row has of a field, and that a document gives it.
 ghost use Rattle.std.specs.Prelude.{◌≡◌, [], ◌∷◌, MatchOption};
 ghost use Rattle.es_types.specs.Values.{is_kind, kind_in, values_in};
 

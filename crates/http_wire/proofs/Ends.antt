@@ -62,7 +62,7 @@ head_len_long (b ∷ bytes) n h =
           ] refl
     ] refl
 
--- bytes behind a head change nothing
+-- bytes after a head change nothing
 pub head_len_append : (bytes more : List ℕ) (n : ℕ) → head_len bytes ≡ Some n → head_len (bytes ++ more) ≡ Some n
 head_len_append [] more n h = let no : ⊥ = cc in absurd no
 head_len_append (b ∷ bytes) more n h =

@@ -130,7 +130,7 @@ advance_bytes bytes start end count h =
     ∙ drop-take count (end - (start + count)) (drop start bytes)
     ∙ ap (take (end - (start + count))) (drop-drop count start bytes))
 
--- a part of a list that ends further behind, where what stands before it stays
+-- a part of a list that ends further on, where what stands before it stays
 pub read_bytes : (mid new : List ℕ) (start end count : ℕ) → start ≤ end → end + count ≤ length new → take end new ≡ take end mid
     → take ((end + count) - start) (drop start new) ≡ take (end - start) (drop start mid) ++ take count (drop end new)
 read_bytes mid new start end count order within same =

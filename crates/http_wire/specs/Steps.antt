@@ -11,7 +11,7 @@ abbrev pub CameFrom : Option (List ℕ) → Option (List ℕ) → List ℕ → T
 CameFrom None left taken = Unit {0}
 CameFrom (Some before) left taken = (after : List ℕ) × (before ≡ taken ++ after) × (left ≡ Some after)
 
--- bytes came from the link, and are held behind the others
+-- bytes came from the link, and are held after the others
 pub record Came (old new : Buffered) (before left : Option (List ℕ)) : Type 0 where
   pub taken : List ℕ
   pub bytes : new.bytes ≡ old.bytes ++ taken

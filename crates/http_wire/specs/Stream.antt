@@ -19,7 +19,7 @@ pub record Took (old : Buffered) (before after taken : List ℕ) : Type 0 where
 abbrev pub stream_of : Buffered → List ℕ → List ℕ
 stream_of held before = held.bytes ++ take held.room before
 
--- a request was taken from the front of what was held and read, whatever comes behind that, and the rest is held
+-- a request was taken from the front of what was held and read, whatever comes after that, and the rest is held
 pub record Gave (old new : Buffered) (before : List ℕ) (left : Option (List ℕ)) (request : Request) : Type 0 where
   pub taken : List ℕ
   pub after : List ℕ

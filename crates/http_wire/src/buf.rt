@@ -1,3 +1,4 @@
+//! The bytes that were read and not taken yet.
 ghost use Rattle.std.specs.Prelude.{◌≡◌, ◌+◌, ◌-◌, ◌<◌, ◌≤◌, [], length, take, drop, IfOk, IfSome, IfNone, OnOk, OnErr};
 ghost use Rattle.http_wire.specs.Steps.{Probed, ReadMore};
 ghost use Rattle.es_outside.specs.Told.{Gives, Rose};
@@ -65,7 +66,7 @@ impl Buf {
     }
 }
 
-/// Reads more bytes behind those that are held: `false` is the end of input.
+/// Reads more bytes after those that are held: `false` is the end of input.
 pub(crate) fn read_more<L: Link>(link: &mut L, buf: &mut Buf) -> Result<bool, WireEnd>
     ensures read { ReadMore buf.old buf.new (L.left link.old) (L.left link.new) result }
     ensures fault { result ≡ Err WireEnd.ReadFault → Rose (L.read_faults link.old) (L.read_faults link.new) }
@@ -84,7 +85,7 @@ pub(crate) fn read_more<L: Link>(link: &mut L, buf: &mut Buf) -> Result<bool, Wi
     buf.start -= moved;
     buf.end -= moved;
     let most = (CONNECTION_BYTES - buf.taken) as usize;
-    match read_behind(link, buf.bytes.as_mut_slice(), buf.end, most) {
+    match read_after(link, buf.bytes.as_mut_slice(), buf.end, most) {
         Ok(count) => {
             buf.end += count;
             buf.taken += count as u64;
@@ -112,8 +113,8 @@ fn probe<L: Link>(link: &mut L) -> Result<bool, WireEnd>
     }
 }
 
-/// Makes room behind the bytes from `start` to `end`: they are moved to the front, by as much as the answer says,
-/// or the whole is made longer. `None` is want of memory.
+/// Makes room after the bytes from `start` to `end`: they are moved to the front, by as much as the answer says,
+/// or the whole is made longer. `None` says that memory ran out.
 fn make_room(bytes: &mut Vec<u8>, start: usize, end: usize) -> Option<usize>
     requires order { start ≤ end }
     requires fits { end ≤ length bytes.old.items }
@@ -138,7 +139,7 @@ fn make_room(bytes: &mut Vec<u8>, start: usize, end: usize) -> Option<usize>
 }
 
 /// Reads at most so many bytes to the place `at`.
-fn read_behind<L: Link>(
+fn read_after<L: Link>(
     link: &mut L,
     bytes: &mut [u8],
     at: usize,

@@ -1,3 +1,4 @@
+//! The lines of a head: which are taken, and what they say.
 ghost use Rattle.std.specs.Prelude.{◌≡◌, ◌<◌, ◌≤◌, ◌^◌, length, map, filter, All, IfSome};
 ghost use Rattle.std.specs.List.{list_all};
 ghost use Rattle.http_wire.specs.Heads.{is_known, is_length, length_of, number_of};

@@ -1,3 +1,4 @@
+//! Where a head ends, and what it says.
 ghost use Rattle.std.specs.Prelude.{◌≡◌, ◌+◌, ◌≤◌, ◌==◌, length, take, drop, option_map, slice_index, All, IfSome, IfNone};
 ghost use Rattle.es_types.specs.declared.limits.TheConstants.{BODY_BYTES};
 ghost use Rattle.http_wire.specs.Heads.{Head, IsHead, head_len};

@@ -1,3 +1,4 @@
+//! That bytes are cut into requests in one way.
 ghost use Rattle.std.specs.Prelude.{◌≡◌, ℕ, List};
 ghost use Rattle.http_wire.specs.declared.request.Request.{Request};
 ghost use Rattle.http_wire.specs.Requests.{HasNoRequest, IsEnd, IsRefused, Spells};

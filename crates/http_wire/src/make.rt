@@ -1,3 +1,4 @@
+//! A request, made of its head and its body.
 ghost use Rattle.std.specs.Prelude.{◌≡◌, length, IfSome, IsUtf8};
 ghost use Rattle.http.specs.Token.{IsToken};
 ghost use Rattle.http_wire.specs.Heads.{path_of, query_of};
@@ -9,7 +10,7 @@ use http::Method;
 use http::method::MethodError;
 use std::alloc::Global;
 
-/// The request that these parts are. `None` is want of memory.
+/// The request that these parts are. `None` says that memory ran out.
 pub(crate) fn make_request(
     alloc: Global,
     method: &[u8],

@@ -1,3 +1,4 @@
+//! The next request of a link, however its bytes come in pieces.
 ghost use Rattle.std.specs.Prelude.{◌≡◌, ◌+◌, ◌<◌, ◌≤◌, length, IfOk, IfSome, OnOk, OnErr, IsUtf8, option_map};
 ghost use Rattle.http.specs.Token.{IsToken};
 ghost use Rattle.httparse.specs.Spans.{IsWithin, span_bytes};
@@ -26,7 +27,7 @@ pub enum WireEnd {
 }
 
 /// Takes the next request from the link. `None` is the end of input before a byte of it. The body is read in time
-/// linear in its length, and nothing is read behind a whole request. After an end the buffer isn't used again.
+/// linear in its length, and nothing is read after a whole request. After an end the buffer isn't used again.
 pub fn next_request<L: Link>(
     alloc: Global,
     link: &mut L,
@@ -114,7 +115,7 @@ fn read_body<L: Link>(link: &mut L, buf: &mut Buf, long: usize) -> Result<(), Wi
     Ok(())
 }
 
-// The moment that a head hands in. The outer `None` is want of memory.
+// The moment that a head hands in. The outer `None` says that memory ran out.
 fn moment_of(alloc: Global, held: &[u8], moment: Option<Span>) -> Option<Option<Bytes>>
     requires { IfSome moment (IsWithin (length held.now)) }
     ensures { IfSome result (λ it. it ≡ option_map (span_bytes held.now) moment) }

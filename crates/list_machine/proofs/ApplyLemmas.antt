@@ -19,18 +19,18 @@ others-nil : (rows : List Row) → others [] rows ≡ rows
 others-nil [] = refl
 others-nil (row ∷ rows) = ap (λ them. row ∷ them) (others-nil rows)
 
--- an operation's row stands behind those of other ids
+-- an operation's row stands after those of other ids
 apply-apart : (rows : List Row) (number : ℕ) (op : Op) → apply rows number op ≡ without (id_of op) rows ++ apply [] number op
 apply-apart rows number (Put id source values) = refl
 apply-apart rows number (Remove id) = sym (append-nil (without id rows))
 
--- a filter behind another, at one element
+-- a filter after another, at one element
 kept : {X : Type 0} (p : X → Bool) (b : Bool) (x : X) (xs rest : List X) → filter p xs ≡ rest
     → filter p (cond b (x ∷ xs) xs) ≡ cond (b && p x) (x ∷ rest) rest
 kept p true x xs rest e = ap (λ them. cond (p x) (x ∷ them) them) e
 kept p false x xs rest e = e
 
--- a filter behind another is a filter by both tests
+-- a filter after another is a filter by both tests
 filter-filter : {X : Type 0} (p q r : X → Bool) → ((x : X) → r x ≡ (q x && p x))
     → (xs : List X) → filter p (filter q xs) ≡ filter r xs
 filter-filter p q r is [] = refl
@@ -86,7 +86,7 @@ apply_all-not_last op ops base number next again =
     goes (Put id source values) again = rw again refl
     goes (Remove id) again = refl
 
--- what is noted of the operation at a place, and of those behind it
+-- what is noted of the operation at a place, and of those after it
 pub are_last-at : (last : List Bool) (at : ℕ) (op : Op) (ops : List Op) → drop at last ≡ are_last (op ∷ ops)
     → (get_or last at false ≡ not (is_written (id_of op) ops)) × (drop (at + 1) last ≡ are_last ops)
 are_last-at last at op ops noted =

@@ -1,4 +1,4 @@
--- In the order of a sort that shows the places, those beyond what is shown of one are the rest behind it.
+-- In the order of a sort that shows the places, those beyond what is shown of one are the rest after it.
 use Rattle.std.proofs.Common.{◌≡◌, Bool, true, false, List, [], ◌∷◌, ◌++◌, Some, None, All, AllPairs, filter, refl, sym, ap, ◌∙◌, true≢false}
 use Rattle.std.proofs.lemmas.Bool.{cond-true, cond-false, false_from_ne_true}
 use Rattle.std.proofs.lemmas.List.Elements.{All-head, All-tail, filter_agree}
@@ -21,11 +21,11 @@ filter_all p (x ∷ xs) all =
     cond-true (p x) (x ∷ filter p xs) (filter p xs) (All-head (λ it. p it ≡ true) x xs all)
     ∙ ap (λ t. x ∷ t) (filter_all p xs (All-tail (λ it. p it ≡ true) x xs all))
 
--- what is behind doesn't come before
+-- what is after doesn't come before
 not_back : {X : Type 0} (before : X → X → Bool) → IsStrict before → (x y : X) → before x y ≡ true → before y x ≡ false
 not_back before strict x y first = false_from_ne_true (before y x) (λ later. true≢false (sym (strict.trans x y x first later) ∙ strict.irrefl x))
 
--- what one of them comes before is the rest behind it
+-- what one of them comes before is the rest after it
 rest_behind : {X : Type 0} (before : X → X → Bool) → IsStrict before → (front : List X) (x : X) (rest : List X)
     → AllPairs (λ a b. before a b ≡ true) (front ++ x ∷ rest) → filter (before x) (front ++ x ∷ rest) ≡ rest
 rest_behind before strict [] x rest pairs =
@@ -38,7 +38,7 @@ rest_behind before strict (first ∷ front) x rest pairs =
     (not_back before strict first x (middle_has (λ b. before first b ≡ true) front x rest (pairs_head (λ a b. before a b ≡ true) first behind pairs)))
     ∙ rest_behind before strict front x rest (pairs_tail (λ a b. before a b ≡ true) first behind pairs)
 
--- each comes before those behind it
+-- each comes before those after it
 abbrev pub AreInOrder : View → SortSpec → List Place → Type 0
 AreInOrder view sort places = AllPairs (λ (a b : Place). comes_before view sort a b ≡ true) places
 

@@ -40,7 +40,7 @@ opening_cases false state keep index number r e o =
     let same : state.next ≡ number = cc in
     (same, ap (λ (r : State × Reply). r.0) e)
 
--- the context of the next number is found behind the others
+-- the context of the next number is found after the others
 pub found_next : (state : State) (keep : ℕ) (index : Index) → All (λ (context : Context). context.number < state.next) state.contexts → context_of state.next (opened state keep index).contexts ≡ Some (pit state.next (view_of index) (state.moment + keep))
 found_next state keep index h =
     let new : Context = pit state.next (view_of index) (state.moment + keep) in

@@ -16,7 +16,7 @@ use Rattle.list_machine.specs.Seen.Paging.{AddsPassing, AreCandidates}
 use Rattle.list_machine.specs.Seen.Stores.{AreBounded}
 use Rattle.list_machine.specs.Views.{View, Place, is_had, is_wanted, places_from, places_of_shard}
 
--- one more row has its place behind the others
+-- one more row has its place after the others
 places_of_shard-push : (shard rank : ℕ) (rows : List Row) (row : Row)
     → places_of_shard shard rank (rows ++ row ∷ []) ≡ places_of_shard shard rank rows ++ record { shard = shard; rank = rank + length rows; row = row } ∷ []
 places_of_shard-push shard rank [] row = ap (λ n. record { shard = shard; rank = n; row = row } ∷ []) (omega arith)
@@ -25,7 +25,7 @@ places_of_shard-push shard rank (first ∷ rows) row =
     (places_of_shard-push shard (rank + 1) rows row
     ∙ ap (λ n. places_of_shard shard (rank + 1) rows ++ record { shard = shard; rank = n; row = row } ∷ []) (omega arith))
 
--- one more shard has its places behind those of the others
+-- one more shard has its places after those of the others
 places_from-push : (shard : ℕ) (shards : List (List Row)) (rows : List Row)
     → places_from shard (shards ++ rows ∷ []) ≡ places_from shard shards ++ places_of_shard (shard + length shards) 0 rows
 places_from-push shard [] rows =
@@ -42,7 +42,7 @@ pub places_miss : (view : View) (sort : SortSpec) (passes : Place → Bool) (pla
 places_miss view sort passes places them none before is =
     subst (λ (all : List Place). AreCandidates view sort all them) (sym (ap (λ more. before ++ more) none ∙ append-nil before)) is
 
--- places behind places
+-- places after places
 adds_then : (view : View) (sort : SortSpec) (passes : Place → Bool) (front rest : List Place) (old them new : List Candidate)
     → AddsPassing view sort passes front old them → AddsPassing view sort passes rest them new → AddsPassing view sort passes (front ++ rest) old new
 adds_then view sort passes front rest old them new first then before is =

@@ -28,7 +28,7 @@ pub record IsStrict {X : Type 0} (before : X → X → Bool) : Type 0 where
   pub irrefl : (x : X) → before x x ≡ false
   pub trans : (x y z : X) → before x y ≡ true → before y z ≡ true → before x z ≡ true
 
--- each comes before those behind it
+-- each comes before those after it
 abbrev Rises : {X : Type 0} → (X → X → Bool) → List X → Type 0
 Rises before xs = AllPairs (λ a b. before a b ≡ true) xs
 
@@ -60,7 +60,7 @@ in_order-same before (x ∷ xs) =
     IsPermutation-trans (x ∷ xs) (x ∷ in_order before xs) (put_in before x (in_order before xs))
     (IsPermutation-cons x xs (in_order before xs) (in_order-same before xs)) (put_in-same before x (in_order before xs))
 
--- an element among others that rise, where each of them comes before it or behind it
+-- an element among others that rise, where each of them comes before it or after it
 put_in-rises : {X : Type 0} (before : X → X → Bool) → IsStrict before → (x : X) (ys : List X) → All (Either before x) ys → Rises before ys → Rises before (put_in before x ys)
 put_in-rises before strict x [] either rises = AllPairs-cons (λ a b. before a b ≡ true) x [] (All-nil (λ b. before x b ≡ true)) rises
 put_in-rises before strict x (y ∷ ys) either rises =
@@ -82,7 +82,7 @@ in_order-rises before strict (x ∷ xs) either =
     (All-permutation (Either before x) xs (in_order before xs) (in_order-same before xs) (pairs_head (Either before) x xs either))
     (in_order-rises before strict xs (pairs_tail (Either before) x xs either))
 
--- an element of a list is its first one or behind it
+-- an element of a list is its first one or after it
 pub contains_cases : {X : Type 0} (x z : X) (xs : List X) → Contains (x ∷ xs) z → (x ≡ z) ⊎ Contains xs z
 contains_cases x z xs it = go it.0 it.1 it.2
   where
@@ -108,13 +108,13 @@ same_first before strict x y xs ys there back first second =
     (contains_cases x y xs back))
     (contains_cases y x ys there)
 
--- what is in a list that rises behind its first element is not that
+-- what is in a list that rises after its first element is not that
 behind_first : {X : Type 0} (before : X → X → Bool) → IsStrict before → (x : X) (xs : List X) → Rises before (x ∷ xs) → Contains xs x → ⊥
 behind_first before strict x xs rises it =
     let less : before x x ≡ true = All-contains (λ b. before x b ≡ true) xs x (pairs_head (λ a b. before a b ≡ true) x xs rises) it in
     true≢false (sym less ∙ strict.irrefl x)
 
--- what is behind the first of one list is behind that of the other
+-- what is after the first of one list is after that of the other
 still_there : {X : Type 0} (before : X → X → Bool) → IsStrict before → (x y : X) (xs ys : List X) → x ≡ y → Rises before (x ∷ xs) → ((z : X) → Contains (x ∷ xs) z → Contains (y ∷ ys) z) → (z : X) → Contains xs z → Contains ys z
 still_there before strict x y xs ys same rises all z it =
     ⊎_elim (λ is. absurd (behind_first before strict x xs rises (subst (Contains xs) (sym is ∙ sym same) it))) (λ later. later)
@@ -236,7 +236,7 @@ found_either laws view query sort slice has =
 pub enumeration_same : (view : View) (query : Query) (sort : SortSpec) (slice : Option Slice) → IsPermutation (found view query slice) (enumeration view query sort slice)
 enumeration_same view query sort slice = in_order-same (comes_before view sort) (found view query slice)
 
--- in it each place comes before those behind it
+-- in it each place comes before those after it
 pub enumeration_rises : (laws : KeyLaws) (view : View) (query : Query) (sort : SortSpec) (slice : Option Slice) → HasPlaces view
     → AllPairs (λ (a b : Place). comes_before view sort a b ≡ true) (enumeration view query sort slice)
 enumeration_rises laws view query sort slice has =

@@ -107,7 +107,7 @@ beyond_none sort after them none =
     sym (filter_all (λ (one : Candidate). key_past sort None one.key) them (λ k d less. refl))
     ∙ ap (λ o. filter (λ (one : Candidate). key_past sort o one.key) them) (sym none)
 
--- some of the candidates behind the first ones
+-- some of the candidates after the first ones
 part_are : (view : View) (sort : SortSpec) (places : List Place) (them : List Candidate) (skip size : ℕ) → AreCandidates view sort places them
     → AreCandidates view sort (take size (drop skip places)) (take size (drop skip them))
 part_are view sort places them skip size is =

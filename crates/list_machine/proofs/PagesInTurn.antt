@@ -44,7 +44,7 @@ opens_is limits history number view o =
           ∙ ap (λ (v : View). Some (record { number = number; view = v })) (sym o.sees),
     )
 
--- behind its opening a context is found
+-- after its opening a context is found
 finds_behind : (limits : Limits) (before now : History) (entry : Entry) (number : ℕ) (it : Named) → named_of number (map named (step (state_of limits before) entry).0.contexts) ≡ Some it → (rest after more : History) → now ≡ before ++ rest → entry ∷ after ≡ rest ++ more → length before < length now
     → named_of number (map named (state_of limits now).contexts) ≡ Some it
 finds_behind limits before now entry number it found [] after more e f l = absurd (omega (arith, ap length e, length-append before []))
@@ -113,7 +113,7 @@ short_page : (view : View) (sort : SortSpec) (size : ℕ) (places : List Place) 
 short_page view sort size places l =
     ap (map (hit view sort)) (drop_all size places (omega (arith, l, length-map (take size places) (hit view sort), length-take size places)))
 
--- a page, and the hits behind it
+-- a page, and the hits after it
 page_and_rest : (view : View) (sort : SortSpec) (size : ℕ) (places : List Place) → map (hit view sort) places ≡ map (hit view sort) (take size places) ++ map (hit view sort) (drop size places)
 page_and_rest view sort size places =
     ap (map (hit view sort)) (sym (take-append-drop size places)) ∙ map-append (hit view sort) (take size places) (drop size places)
@@ -128,7 +128,7 @@ page_end view sort size front places hits after e ends =
     sym (take-append-drop size places) ∙ ap (λ t. t ++ drop size places) r.2 ∙ append_assoc r.0 (r.1 ∷ []) (drop size places) in
     (r.0, r.1, sym shown, ap (λ t. front ++ t) cut ∙ sym (append_assoc front r.0 (r.1 ∷ drop size places)))
 
--- the pages of a point in time are of its view, and the sort shows its places, of which each comes before those behind it
+-- the pages of a point in time are of its view, and the sort shows its places, of which each comes before those after it
 record Chain (limits : Limits) (history : History) (number : ℕ) (view : View) (query : Query) (sort : SortSpec) (slice : Option Slice) : Type 0 where
   each : (turn : Turn limits history number) → turn.answer ≡ answer view turn.request turn.request.from
   laws : KeyLaws
@@ -152,7 +152,7 @@ first_page {limits} {history} {number} {view} {query} {sort} {slice} chain turn 
     ∙ ap (λ t. map (hit view sort) (take turn.request.size t))
     (ap (λ a. filter (is_past view sort a) (enumeration view query sort slice)) begins ∙ beyond_nothing view sort (enumeration view query sort slice))
 
--- the page behind a place is of what was left
+-- the page after a place is of what was left
 next_page : {limits : Limits} {history : History} {number : ℕ} {view : View} {query : Query} {sort : SortSpec} {slice : Option Slice} → Chain limits history number view query sort slice → (turn : Turn limits history number) → Asks query sort slice turn
     → (front : List Place) (place : Place) (rest : List Place) → enumeration view query sort slice ≡ front ++ place ∷ rest
     → (after : Keys) → turn.request.after ≡ Some after → after.values ≡ shown_at view sort place → turn.answer.hits ≡ map (hit view sort) (take turn.request.size rest)

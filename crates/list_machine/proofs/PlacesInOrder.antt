@@ -14,7 +14,7 @@ rising_below : (low high : ℕ) (places : List Place) → low ≤ high → Risin
 rising_below low high [] l r = tt
 rising_below low high (place ∷ places) l r = (omega (arith, r.0), r.1)
 
--- a shard's places, and others behind them
+-- a shard's places, and others after them
 rising_shard : (rows : List Row) (shard rank to : ℕ) (rest : List Place) → shard * 4294967296 + rank + length rows ≤ to → Rising to rest
     → Rising (shard * 4294967296 + rank) (places_of_shard shard rank rows ++ rest)
 rising_shard [] shard rank to rest l r = rising_below (shard * 4294967296 + rank) to rest (omega arith) r

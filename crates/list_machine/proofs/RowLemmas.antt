@@ -47,7 +47,7 @@ by_put true false = refl
 by_put false true = refl
 by_put false false = refl
 
--- whether an id has a row behind an operation
+-- whether an id has a row after an operation
 pub has_id-apply : (rows : List Row) (number : ℕ) (op : Op) (id : List ℕ) → has_id id (apply rows number op) ≡ stands_after op id (has_id id rows)
 has_id-apply rows number (Put put source values) id =
     let row : Row = record { seq = number; id = put; source = source; values = values } in

@@ -29,14 +29,14 @@ pub record Turn (limits : Limits) (history : History) (number : ℕ) : Type 0 wh
   pub searches : entry.event ≡ Search (Pit number keep) request
   pub found : reply_of limits before entry ≡ Found answer
 
--- the values of the page's last hit, behind which the next page begins
+-- the values of the page's last hit, after which the next page begins
 pub record EndsAt (hits : List Hit) (after : List Value) : Type 0 where
   pub front : List Hit
   pub last : Hit
   pub are : hits ≡ front ++ last ∷ []
   pub shows : last.shown ≡ after
 
--- the later search begins behind the last hit of the earlier one
+-- the later search begins after the last hit of the earlier one
 pub record Follows {limits : Limits} {history : History} {number : ℕ} (earlier later : Turn limits history number) : Type 0 where
   pub order : length earlier.before < length later.before
   pub after : Keys
@@ -54,12 +54,12 @@ abbrev pub GoesOn : {limits : Limits} {history : History} {number : ℕ} → Que
 GoesOn query sort slice turn [] = Unit {0}
 GoesOn query sort slice turn (next ∷ turns) = Follows turn next × Asks query sort slice next × GoesOn query sort slice next turns
 
--- pages of one query, sort and slice in turn: the first begins at the front, and each later one behind the one before
+-- pages of one query, sort and slice in turn: the first begins at the front, and each later one after the one before
 abbrev pub InTurn : {limits : Limits} {history : History} {number : ℕ} → Query → SortSpec → Option Slice → List (Turn limits history number) → Type 0
 InTurn query sort slice [] = Unit {0}
 InTurn query sort slice (turn ∷ turns) = (turn.request.after ≡ None) × Asks query sort slice turn × GoesOn query sort slice turn turns
 
--- a hit shows its place, as a key of the sort or behind them
+-- a hit shows its place, as a key of the sort or after them
 abbrev pub shows_place : SortSpec → Bool
 shows_place sort = sort.show_place || lists_place sort.keys
 

@@ -25,11 +25,11 @@ run state (entry ∷ entries) = run (step state entry).0 entries
 abbrev pub state_of : Limits → History → State
 state_of limits history = run (start limits) history
 
--- the reply to an entry behind a history
+-- the reply to an entry after a history
 abbrev pub reply_of : Limits → History → Entry → Reply
 reply_of limits history entry = (step (state_of limits history) entry).1
 
--- an entry stands behind the first entries of a history
+-- an entry stands after the first entries of a history
 pub record Occurs (history before : History) (entry : Entry) : Type 0 where
   pub after : History
   pub is : history ≡ before ++ entry ∷ after

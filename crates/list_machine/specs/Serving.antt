@@ -44,7 +44,7 @@ IsAskable limits history (Search target request) = IsBounded (Search target requ
 IsAskable limits history (Close which) = Unit {0}
 IsAskable limits history Quiet = ⊥
 
--- What a call adds beside what it asks: entries of others, and at most so many Quiets of its own, all at
+-- What a call adds besides what it asks: entries of others, and at most so many Quiets of its own, all at
 -- the moment that it was handed.
 pub record Beside (seat most moment : ℕ) (more : History) : Type 0 where
   pub none_asked : All (λ (entry : Entry). entry.who ≢ asking seat) more
@@ -84,7 +84,7 @@ abbrev pub Asked : Limits → ℕ → ℕ → History → History → Entry → 
 Asked limits seat most old new entry reply =
     IsAnswered limits seat most old new entry reply ⊎ IsSpent limits seat most entry.moment old new reply
 
--- what want of memory says of it: the entry may have been asked or not
+-- what lack of memory says of it: the entry may have been asked or not
 abbrev pub MayHaveAsked : ℕ → ℕ → History → History → Entry → Type 0
 MayHaveAsked seat most old new entry = Adds seat most old new entry ⊎ GrowsBeside seat most entry.moment old new
 

@@ -39,7 +39,7 @@ abbrev pub put_op : List ℕ → List ℕ → Result (List Value) DocFault → R
 put_op id source (Ok values) = Ok (PutOp id source values)
 put_op id source (Err fault) = Err fault
 
--- the operation that a change of a document is, unless the document has a value that is none of its field
+-- the operation that a change of a document is, unless the document has a value that is not one of its field
 abbrev pub op_of : List Field → List ℕ → Change → Result Op DocFault
 op_of mapping id (Put doc) = put_op id doc.source (fit mapping doc.members)
 op_of mapping id Remove = Ok (RemoveOp id)
@@ -119,7 +119,7 @@ after_fits_sort view sort None = true
 after_fits_sort view sort (Some after) = after_fits (mapping_at view 0) sort after
 
 -- Why a request doesn't fit a view: first by a query that has a value of another kind than its field, then by a sort by a field
--- that isn't mapped, then by values to go on after that are none of the sort. None where it fits.
+-- that isn't mapped, then by values to go on after that are not those of the sort. None where it fits.
 abbrev pub unfit : View → SearchRequest → Option Reply
 unfit view request =
     if fits (mapping_at view 0) request.query

@@ -1,3 +1,4 @@
+//! Points in time, as the machine holds them.
 ghost use Rattle.std.specs.Prelude.{◌≡◌, IfOk, map};
 ghost use Rattle.es_query.specs.Limits.{bounds_of};
 

@@ -1,3 +1,4 @@
+//! Events, entries, replies and limits.
 use crate::{Answer, SearchRequest};
 use es_types::{Doc, DocFault, DocId, IndexName, Items, KeepAlive, Mapping, Moment};
 
@@ -105,13 +106,13 @@ pub enum Reply {
     Exists,
     /// No point in time of that number is live.
     Missing,
-    /// The document has a value that is none of its field.
+    /// The document has a value that is not one of its field.
     BadDoc(DocFault),
     /// The query has a value of another kind than its field's.
     BadQuery,
     /// The sort has a field that isn't mapped.
     BadSort,
-    /// The values to go on behind are none of the sort.
+    /// The values to go on after are not those of the sort.
     BadAfter,
     /// As many points in time as may be are live, or all indexes together would have more shards than they may have.
     TooMany { limit: u64 },

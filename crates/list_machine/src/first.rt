@@ -1,3 +1,4 @@
+//! What is there from the start.
 ghost use Rattle.std.specs.Prelude.{◌≡◌, IfOk};
 ghost use Rattle.list_machine.specs.State.{docs, start};
 ghost use Rattle.list_machine.specs.Seen.Stores.{state_seen};

@@ -1,3 +1,4 @@
+//! What is true of every history.
 ghost use Rattle.std.specs.Prelude.{◌≡◌, ℕ, ◌≤◌, List, ◌++◌, length, filter, Option, Some, None, All, AllPairs, Contains, IsTrue};
 ghost use Rattle.std.specs.List.Sorted.{IsPermutation};
 ghost use Rattle.es_types.specs.declared.limits.TheConstants.{ALL_SHARDS};
@@ -27,7 +28,7 @@ pub fn pages_in_turn()
 }
 
 /// The enumeration of a view, whose shards have at most 2^32 rows, is the one list of the places that a search wants in which each
-/// comes before those behind it.
+/// comes before those after it.
 pub fn one_enumeration()
     ensures same { (view : View) (query : Query) (sort : SortSpec) (slice : Option Slice) → IsPermutation (found view query slice) (enumeration view query sort slice) }
     ensures ordered { (view : View) (query : Query) (sort : SortSpec) (slice : Option Slice) → HasPlaces view

@@ -1,3 +1,4 @@
+//! One seat at a machine that others may use too.
 ghost use Rattle.std.specs.Prelude.{◌≡◌, ◌+◌, ◌*◌, ◌≤◌, ℕ, List, length, MatchResult, IfOk, IsFalse};
 ghost use Rattle.list_machine.specs.declared.event.Entry.{Entry};
 ghost use Rattle.list_machine.specs.declared.event.Limits.{Limits};

@@ -1,3 +1,4 @@
+//! Indexes and their shards, as the machine holds them.
 ghost use Rattle.std.specs.Prelude.{◌≡◌, ◌<◌, ◌^◌, bytes_eq, position};
 ghost use Rattle.es_types.specs.declared.limits.TheConstants.{MOST_ENTRIES};
 ghost use Rattle.list_machine.specs.Rows.{last_number as last_number_of};

@@ -25,7 +25,7 @@ module _ {A B : Type 0} (told : A → B) where
         let one = total-at (λ u. u.lasts) s.views id v at in
         dite (ℕ_discrete (held s.views) 0) (λ none_left. none_left) (λ some_left. let none_last = r.open_none_last (omega arith) in absurd (omega arith))
 
-    -- nobody has a hold beside it, and it is the only one
+    -- nobody else has a hold, and it is the only one
     pub alone : (s : St) → KeepsCount told body s → (id : ℕ) (v : View B) → get_elem? s.views id ≡ some v → 0 < v.lasts → IsAlone s id v
     alone s r id v at last =
         let empty = none_held s r id v at last in

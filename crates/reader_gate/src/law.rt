@@ -16,7 +16,7 @@ pub fn a_reader_ends_once<A, B>()
     ensures lets_go { (told : A → B) → LetsOneGo told }
 {}
 
-/// A seat that had the last hold, beside one that has a hold or had the last one too: the one takes the other in, and looks.
+/// A seat that had the last hold, next to one that has a hold or had the last one too: the one takes the other in, and looks.
 pub fn meet<B: Drop>(gate: &Gate<B>, ended: &mut Place<B>, other: &mut Place<B>)
     requires here { (ended.old.table_id ≡ gate.now.shared.table_id) × (other.old.table_id ≡ gate.now.shared.table_id) × (gate.now.shared.table_id.words ≡ 1) }
     requires last { (0 < ended.old.me.0.lasts) × ((0 < other.old.me.0.holds) ⊎ (0 < other.old.me.0.lasts)) }

@@ -1,4 +1,4 @@
--- What printing rests on: the phrase of a number that is no status code, a body behind its head, and one more
+-- What printing rests on: the phrase of a number that is no status code, a body after its head, and one more
 -- piece at the end of a printed list.
 use Rattle.std.proofs.Common.{◌≡◌, Bool, true, false, cond, eqb, ltb, List, [], ◌∷◌, ◌++◌, length, take, get_or, ℕ, ◌<◌, ◌≤◌, ◌+◌, Option, Some, None, refl, ap, ◌∙◌, sym, arith, append_assoc, append-nil}
 use Rattle.std.specs.Prelude.{codes, decimal, nat_lt, nat_le, IsTrue, unwrap_or}
@@ -49,13 +49,13 @@ no_phrase n none =
 joins : (a s sp p c t l n close body : List ℕ) → (a ++ (s ++ (sp ++ (p ++ (c ++ (t ++ (c ++ (l ++ (n ++ (c ++ (close ++ c))))))))))) ++ body ≡ a ++ (((s ++ sp) ++ p) ++ (c ++ (t ++ (c ++ (l ++ (n ++ (c ++ (close ++ (c ++ body)))))))))
 joins a s sp p c t l n close body = simp append_assoc
 
--- a body behind its head
+-- a body after its head
 pub framed : (status : ℕ) (phrase close head body : List ℕ) (last : Bool) → phrase ≡ unwrap_or (reason_phrase status) (codes "<unknown status code>") → close ≡ close_line last → head ≡ joined (codes "HTTP/1.1 " ∷ decimal status ∷ codes " " ∷ phrase ∷ crlf ∷ codes "content-type: application/json" ∷ crlf ∷ codes "content-length: " ∷ decimal (length body) ∷ crlf ∷ close ∷ crlf ∷ []) → head ++ body ≡ frame status body last
 unfolding frame
 framed status phrase close head body last is_phrase is_close is_head =
     rw (is_head, is_phrase, is_close) (joins (codes "HTTP/1.1 ") (decimal status) (codes " ") (unwrap_or (reason_phrase status) (codes "<unknown status code>")) crlf (codes "content-type: application/json") (codes "content-length: ") (decimal (length body)) (close_line last) body)
 
--- the pieces of a list, each behind a comma but the first
+-- the pieces of a list, each after a comma but the first
 pub record Lists {A : Type 0} (text : A → List ℕ) (all : Bool → List A → List ℕ) : Type 0 where
   none : (later : Bool) → all later [] ≡ []
   more : (later : Bool) (x : A) (xs : List A) → all later (x ∷ xs) ≡ comma_if later ++ (text x ++ all true xs)
@@ -66,15 +66,15 @@ turned c t = ap (λ ys. c ++ ys) (append-nil t)
 nested : (c t rest more : List ℕ) → c ++ (t ++ (rest ++ more)) ≡ (c ++ (t ++ rest)) ++ more
 nested c t rest more = simp append_assoc
 
-behind : {A : Type 0} (text : A → List ℕ) (all : Bool → List A → List ℕ) → Lists text all → (xs : List A) (x : A) → all true (xs ++ x ∷ []) ≡ all true xs ++ (comma_if true ++ text x)
-behind text all lists [] x =
+with_one_more : {A : Type 0} (text : A → List ℕ) (all : Bool → List A → List ℕ) → Lists text all → (xs : List A) (x : A) → all true (xs ++ x ∷ []) ≡ all true xs ++ (comma_if true ++ text x)
+with_one_more text all lists [] x =
     lists.more true x []
     ∙ ap (λ ys. comma_if true ++ (text x ++ ys)) (lists.none true)
     ∙ turned (comma_if true) (text x)
     ∙ ap (λ ys. ys ++ (comma_if true ++ text x)) (sym (lists.none true))
-behind text all lists (y ∷ xs) x =
+with_one_more text all lists (y ∷ xs) x =
     lists.more true y (xs ++ x ∷ [])
-    ∙ ap (λ ys. comma_if true ++ (text y ++ ys)) (behind text all lists xs x)
+    ∙ ap (λ ys. comma_if true ++ (text y ++ ys)) (with_one_more text all lists xs x)
     ∙ nested (comma_if true) (text y) (all true xs) (comma_if true ++ text x)
     ∙ ap (λ ys. ys ++ (comma_if true ++ text x)) (sym (lists.more true y xs))
 
@@ -87,12 +87,12 @@ at_end text all lists [] x i len =
     ∙ ap (λ ys. ys ++ (comma_if (ltb 0 i) ++ text x)) (sym (lists.none false))
 at_end text all lists (y ∷ xs) x i len =
     lists.more false y (xs ++ x ∷ [])
-    ∙ ap (λ ys. comma_if false ++ (text y ++ ys)) (behind text all lists xs x)
+    ∙ ap (λ ys. comma_if false ++ (text y ++ ys)) (with_one_more text all lists xs x)
     ∙ nested (comma_if false) (text y) (all true xs) (comma_if true ++ text x)
     ∙ ap (λ ys. ys ++ (comma_if true ++ text x)) (sym (lists.more false y xs))
     ∙ ap (λ b. all false (y ∷ xs) ++ (comma_if b ++ text x)) (sym (lt-ltb 0 i (omega arith)))
 
--- one more item of a printed list, behind what was there
+-- one more item of a printed list, after what was there
 step : {A : Type 0} (text : A → List ℕ) (all : Bool → List A → List ℕ) → Lists text all → (xs : List A) (i : ℕ) (x : A) (start was now : List ℕ) → i < length xs → x ≡ get_or xs i x → was ≡ start ++ all false (take i xs) → now ≡ was ++ (comma_if (ltb 0 i) ++ text x) → now ≡ start ++ all false (take (i + 1) xs)
 step text all lists xs i x start was now in_list at so_far put =
     put
@@ -114,13 +114,13 @@ lines_step lines = step line_text lines_text (record { none = λ later. refl; mo
 pieces : (old comma a b c d e source sort end : List ℕ) → ((((old ++ comma) ++ (a ++ (b ++ (c ++ (d ++ e))))) ++ source) ++ sort) ++ end ≡ old ++ (comma ++ (a ++ (b ++ (c ++ (d ++ (e ++ (source ++ (sort ++ end))))))))
 pieces old comma a b c d e source sort end = simp append_assoc
 
--- a hit behind what was there
+-- a hit after what was there
 pub hit_put : (old comma head sort : List ℕ) (hit : Hit) → head ≡ joined (codes "{\"_index\":" ∷ quoted hit.index ∷ codes ",\"_id\":" ∷ quoted hit.id ∷ codes ",\"_score\":null,\"_source\":" ∷ []) → sort ≡ sort_text hit.shown → ((((old ++ comma) ++ head) ++ hit.source) ++ sort) ++ codes "}" ≡ old ++ (comma ++ hit_text hit)
 unfolding hit_text
 hit_put old comma head sort hit is_head is_sort =
     rw (is_head, is_sort) (pieces old comma (codes "{\"_index\":") (quoted hit.index) (codes ",\"_id\":") (quoted hit.id) (codes ",\"_score\":null,\"_source\":") hit.source (sort_text hit.shown) (codes "}"))
 
--- what is said where memory is wanting
+-- what is said where memory runs out
 no_memory_body : fault_text NoMemory ≡ codes "{\"error\":{\"root_cause\":[{\"type\":\"no_memory_exception\",\"reason\":\"no memory\"}],\"type\":\"no_memory_exception\",\"reason\":\"no memory\"},\"status\":503}"
 unfolding fault_text cause_members digits escape_byte
 no_memory_body = refl

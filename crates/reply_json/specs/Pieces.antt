@@ -1,7 +1,7 @@
 -- Texts put together.
 use Rattle.std.specs.Prelude.{ℕ, Bool, if◌then◌else◌, List, [], ◌∷◌, ◌++◌}
 
--- the pieces, one behind another
+-- the pieces, one after another
 abbrev pub joined : List (List ℕ) → List ℕ
 joined [] = []
 joined (piece ∷ []) = piece

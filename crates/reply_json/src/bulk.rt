@@ -1,3 +1,4 @@
+//! The body of a bulk's response.
 ghost use Rattle.std.specs.Prelude.{◌≡◌, ◌∷◌, ◌++◌, [], IfOk, OnOk, codes, decimal, false, string_bytes};
 ghost use Rattle.reply_json.specs.Bulk.{accepted_members, action_word, bulk_text, has_errors, is_refused, line_text, lines_text, outcome_members, refused_members, truth_word};
 ghost use Rattle.reply_json.specs.Pieces.{comma_if, joined};

@@ -1,3 +1,4 @@
+//! The bodies of responses to single writes, openings and closings.
 ghost use Rattle.std.specs.Prelude.{◌≡◌, ◌∷◌, [], IfOk, codes, decimal, length, string_bytes};
 ghost use Rattle.reply_json.specs.Documents.{closed_status, closed_text, created_text, opened_text, refreshed_text, result_word, wrote_status, wrote_text};
 ghost use Rattle.reply_json.specs.Pieces.{joined};

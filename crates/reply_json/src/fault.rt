@@ -1,3 +1,4 @@
+//! Why a request is refused.
 ghost use Rattle.std.specs.Prelude.{◌≡◌};
 ghost use Rattle.reply_json.specs.declared.fault.RestFault.TheVariants.{NoMemory};
 
@@ -11,7 +12,7 @@ pub enum RestFault {
     NotBuilt,
     /// The parameter of that name has a value that it cannot have, is missing, or is none of its route.
     BadParam(Text),
-    /// A body that is none of its route, as a document that is no JSON object.
+    /// A body that is not one of its route, as a document that is no JSON object.
     BadBody,
     /// A limit that the request breaks.
     Limit(LimitName),
@@ -23,13 +24,13 @@ pub enum RestFault {
     NoIndex(Text),
     /// An index of that name is there.
     Exists(Text),
-    /// The document has a value that is none of its field.
+    /// The document has a value that is not one of its field.
     BadDoc(DocFault),
     /// The query has a value of another kind than its field's.
     BadQuery,
     /// The sort has a field that isn't mapped.
     BadSort,
-    /// The values to go on behind are none of the sort.
+    /// The values to go on after are not those of the sort.
     BadAfter,
     /// No context of that id is live.
     NoContext(Text),

@@ -1,3 +1,4 @@
+//! The body of a search's response.
 ghost use Rattle.std.specs.Prelude.{◌≡◌, ◌∷◌, ◌++◌, [], IfOk, OnOk, codes, decimal, false, string_bytes};
 ghost use Rattle.reply_json.specs.Hits.{before_hits, counts_text, found_text, hit_text, hits_text, phases_text, pit_text, sort_text, value_text, values_text};
 ghost use Rattle.reply_json.specs.Pieces.{comma_if, joined};

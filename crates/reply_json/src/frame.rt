@@ -1,3 +1,4 @@
+//! The head of a response, and its body after it.
 ghost use Rattle.std.specs.Prelude.{◌≡◌, ◌∷◌, [], IfOk, codes, decimal, length, string_bytes, unwrap_or};
 ghost use Rattle.http.specs.StatusCode.{reason_phrase};
 ghost use Rattle.reply_json.specs.Frame.{close_line, crlf, frame};

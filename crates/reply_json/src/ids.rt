@@ -1,3 +1,4 @@
+//! The texts of ids in responses.
 ghost use Rattle.std.specs.Prelude.{◌≡◌, IfOk};
 ghost use Rattle.reply_json.specs.Ids.{id_text};
 

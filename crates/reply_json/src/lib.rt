@@ -1,4 +1,4 @@
-//! The text of responses: replies, items of a bulk and faults as JSON (RFC 8259), behind the head of an HTTP/1.1
+//! The text of responses: replies, items of a bulk and faults as JSON (RFC 8259), after the head of an HTTP/1.1
 //! response (RFC 9112).
 #![tactic(auto)]
 

@@ -1,3 +1,4 @@
+//! Pieces of JSON that several bodies have.
 ghost use Rattle.std.specs.Prelude.{◌≡◌, IfOk, string_bytes};
 ghost use Rattle.json.specs.Print.{quoted};
 ghost use Rattle.reply_json.specs.Pieces.{comma_if};

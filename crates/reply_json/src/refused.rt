@@ -1,3 +1,4 @@
+//! The body of a refusal.
 ghost use Rattle.std.specs.Prelude.{◌≡◌, ◌∷◌, [], IfOk, codes, decimal, string_bytes};
 ghost use Rattle.reply_json.specs.Faults.{cause_members, cause_text, fault_status, fault_text, fault_type, limit_word, reason};
 ghost use Rattle.reply_json.specs.Pieces.{joined};

@@ -1,3 +1,4 @@
+//! The bytes of a response, whatever it is.
 ghost use Rattle.std.specs.Prelude.{◌≡◌, IfOk, false, true};
 ghost use Rattle.reply_json.specs.Replies.{reply_text, text};
 
@@ -77,7 +78,7 @@ fn no_memory_kept() -> &'static [u8]
     b"HTTP/1.1 503 Service Unavailable\r\ncontent-type: application/json\r\ncontent-length: 141\r\n\r\n{\"error\":{\"root_cause\":[{\"type\":\"no_memory_exception\",\"reason\":\"no memory\"}],\"type\":\"no_memory_exception\",\"reason\":\"no memory\"},\"status\":503}"
 }
 
-/// The bytes of the response that memory is wanting. It takes none.
+/// The bytes of the response that memory ran out. It takes none.
 pub fn no_memory_text(last: bool) -> &'static [u8]
     ensures { result.now ≡ text (Response.Fault RestFault.NoMemory) last }
 {

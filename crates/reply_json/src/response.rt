@@ -1,3 +1,4 @@
+//! What is answered to a request.
 use crate::fault::RestFault;
 use es_types::{DocId, IndexName, Items, Text};
 use list_machine::{Reply, Wrote};

@@ -66,12 +66,12 @@ has_form value =
 
 -- ---- limits
 
--- how many hits are left out, how many are wanted, of which slice, and behind which values
+-- how many hits are left out, how many are wanted, of which slice, and after which values
 abbrev pub span_of : ℕ → ℕ → Option Slice → Option Keys → Span
 span_of from size slice after = record { from = from; size = size; after = after; slice = slice }
 
 -- The first limit that is broken: a point in time can be kept so long, either the path names an index or the body a point in time, a
--- slice is one of a point in time, hits are left out only where no values are given to go on behind, at most 10,000 hits are left
+-- slice is one of a point in time, hits are left out only where no values are given to go on after, at most 10,000 hits are left
 -- out and wanted together, there can be such a slice, and then the keys of the sort.
 abbrev pub broken : Bool → Option Named → Span → List NamedKey → Option LimitName
 broken has_index named span keys =

@@ -1,4 +1,4 @@
--- Which sort a JSON value is, and which values a search goes on behind, in the words of Elasticsearch's reference, "Sort search
+-- Which sort a JSON value is, and which values a search goes on after, in the words of Elasticsearch's reference, "Sort search
 -- results" and "Paginate search results": `order` and `missing`, without any other setting.
 use Rattle.std.specs.Prelude.{ℕ, ◌||◌, ◌&&◌, nat_lt, Bool, true, false, not, bytes_eq, if◌then◌else◌, List, [], ◌∷◌, length, is_some, Option, Some, None, option_map, option_and_then, codes}
 use Rattle.std.specs.List.{list_any}
@@ -89,7 +89,7 @@ sort_by name = if bytes_eq name (codes "_shard_doc") || bytes_eq name (codes "_d
 abbrev pub sort_key : NamedKey → SortKey
 sort_key key = record { by = sort_by key.name; down = key.down; missing_first = key.missing_first }
 
--- ---- the values that a search goes on behind
+-- ---- the values that a search goes on after
 
 -- a null is a missing value
 abbrev pub after_value : Data → Option Value

@@ -1,3 +1,4 @@
+//! The values after which a page begins.
 ghost use Rattle.std.specs.Prelude.{◌≡◌, IfOk, option_map};
 ghost use Rattle.serde_json.specs.View.{items_view, view};
 ghost use Rattle.search_json.specs.Sorts.{after_of, after_value, after_values};
@@ -31,7 +32,7 @@ fn after_values(alloc: Global, values: &[Value]) -> Result<Option<Vec<RowValue>>
     Ok(Some(all))
 }
 
-/// The values that a search goes on behind, where it is given some.
+/// The values that a search goes on after, where it is given some.
 #[tactic(auto, unfolding(crate::specs::Sorts::after_of))]
 pub(crate) fn after_of(alloc: Global, value: &Value) -> Result<Option<Option<Keys>>, NoMemory>
     ensures { IfOk result (λ after. after ≡ after_of (view value.now)) }

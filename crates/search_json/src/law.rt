@@ -1,3 +1,4 @@
+//! That bodies with a point in time ask for places.
 ghost use Rattle.std.specs.Prelude.{ℕ, Bool, List, IfOk};
 ghost use Rattle.search_json.specs.Searches.{ShowsInPit, search_of};
 

@@ -1,3 +1,4 @@
+//! The names that the bodies of searches use.
 ghost use Rattle.std.specs.Prelude.{◌≡◌};
 ghost use Rattle.search_json.specs.Queries.{clause_of, kind_of};
 ghost use Rattle.search_json.specs.Values.{side_of};

@@ -1,3 +1,4 @@
+//! Points in time in the bodies of searches and closings.
 ghost use Rattle.std.specs.Prelude.{◌≡◌, option_map};
 ghost use Rattle.serde_json.specs.View.{view};
 ghost use Rattle.es_types.specs.Fail.{Answers};

@@ -1,3 +1,4 @@
+//! The query of a search.
 ghost use Rattle.std.specs.Prelude.{◌≡◌, IfOk, option_map};
 ghost use Rattle.serde_json.specs.View.{items_view, members_view, view};
 ghost use Rattle.search_json.specs.Queries.{bool_of, clause_of, clauses_in, if_empty, no_clauses, placed, queries_in, queries_of, query_by, query_of, with_clause, with_need};

@@ -1,3 +1,4 @@
+//! The body of a search.
 ghost use Rattle.std.specs.Prelude.{◌≡◌, ◌+◌, ◌≤◌, IfNone, IfOk, IfSome, length, option_map};
 ghost use Rattle.es_types.specs.declared.limits.TheConstants.{MOST_BATCH};
 ghost use Rattle.serde_json.specs.View.{view};
@@ -22,7 +23,7 @@ use serde_json::Value;
 use slice_rule::Slice;
 use std::alloc::Global;
 
-/// How many hits a search leaves out, how many it wants, behind which values, and of which slice.
+/// How many hits a search leaves out, how many it wants, after which values, and of which slice.
 #[derive(Drop)]
 struct Span {
     from: u32,
@@ -221,7 +222,7 @@ fn count_in(usual: u32, count: Option<&Value>) -> Option<u32>
     }
 }
 
-// How many hits are left out, how many are wanted, behind which values, and of which slice.
+// How many hits are left out, how many are wanted, after which values, and of which slice.
 #[tactic(auto, unfolding(crate::specs::Searches::span_in))]
 fn span_in(alloc: Global, value: &Value) -> Result<Option<Span>, NoMemory>
     ensures { IfOk result (λ span. span ≡ span_in (view value.now)) }

@@ -1,3 +1,4 @@
+//! The slice of a search.
 ghost use Rattle.std.specs.Prelude.{◌≡◌, IfSome, IsFalse};
 ghost use Rattle.serde_json.specs.View.{view};
 ghost use Rattle.slice_rule.specs.Parts.{IsSlice};

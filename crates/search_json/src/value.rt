@@ -1,3 +1,4 @@
+//! Terms, ranges and their values.
 ghost use Rattle.std.specs.Prelude.{◌≡◌, IfOk, option_map};
 ghost use Rattle.serde_json.specs.View.{members_view, view};
 ghost use Rattle.search_json.specs.Values.{edge_of, edges_in, only, only_of, range_of, small_of, term_of, value_of, wanted};

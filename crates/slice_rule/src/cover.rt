@@ -1,3 +1,4 @@
+//! What a slice has of a shard.
 ghost use Rattle.std.specs.Prelude.{◌≡◌, ◌<◌, ◌==◌, ℕ, not};
 ghost use Rattle.slice_rule.specs.Parts.{IsFine, IsSlice, covers, has, is_none, part};
 

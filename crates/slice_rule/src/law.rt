@@ -1,3 +1,4 @@
+//! That each place is in one slice.
 ghost use Rattle.std.specs.Prelude.{ℕ, ◌<◌, ◌≤◌};
 ghost use Rattle.slice_rule.specs.Parts.{part};
 

@@ -1,3 +1,4 @@
+//! The slice that has a place.
 ghost use Rattle.std.specs.Prelude.{◌≡◌, ◌<◌, ◌≤◌};
 ghost use Rattle.slice_rule.specs.Parts.{part, sharing};
 

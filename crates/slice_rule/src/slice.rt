@@ -1,3 +1,4 @@
+//! A slice: its number, and how many there are.
 ghost use Rattle.std.specs.Prelude.{◌≡◌, ◌≤◌, ◌<◌, ◌⊎◌, MatchResult};
 ghost use Rattle.slice_rule.specs.Parts.{IsSlice};
 

@@ -10,7 +10,7 @@ use Rattle.list_machine.specs.State.{id_of}
 abbrev pub is_written : List ℕ → List Op → Bool
 is_written id ops = list_any (λ op. bytes_eq (id_of op) id) ops
 
--- for each operation, whether none behind it is of its id
+-- for each operation, whether none after it is of its id
 abbrev pub are_last : List Op → List Bool
 are_last [] = []
 are_last (op ∷ ops) = not (is_written (id_of op) ops) ∷ are_last ops

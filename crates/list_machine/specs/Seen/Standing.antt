@@ -1,4 +1,4 @@
--- Whether a document stands behind an operation.
+-- Whether a document stands after an operation.
 use Rattle.std.specs.Prelude.{ℕ, Bool, not, ◌&&◌, ◌||◌, bytes_eq, List}
 use Rattle.es_types.specs.declared.row.Op.{Op}
 use Rattle.es_types.specs.declared.row.Op.TheVariants.{Put, Remove}

@@ -1,3 +1,4 @@
+//! Between which values the rows of shards lie.
 ghost use Rattle.std.specs.Prelude.{◌≡◌, map, IfOk};
 ghost use Rattle.list_machine.specs.Seen.Stores.{bounds_of_each};
 

@@ -1,3 +1,4 @@
+//! The rows that match, of those that a slice has, with their places and keys.
 ghost use Rattle.std.specs.Prelude.{◌≡◌, ◌<◌, ◌≤◌, ◌∷◌, [], ℕ, true, not, length, IfOk, IfSome, OnOk};
 ghost use Rattle.es_types.specs.declared.limits.TheConstants.{ALL_SHARDS, SHARD_ROWS};
 ghost use Rattle.es_query.specs.Limits.{bounds_of};

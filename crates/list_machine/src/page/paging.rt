@@ -1,3 +1,4 @@
+//! The page of a search, and its counts.
 ghost use Rattle.std.specs.Prelude.{◌≡◌, ◌<◌, ◌≤◌, All, filter, length, map, IfOk, IfSome};
 ghost use Rattle.es_types.specs.declared.limits.TheConstants.{ALL_SHARDS};
 ghost use Rattle.es_query.specs.Limits.{bounds_of};
@@ -102,7 +103,7 @@ fn found_in_order<'a>(
     Ok(them)
 }
 
-/// Those behind the values that the request gives.
+/// Those after the values that the request gives.
 fn beyond<'a>(request: &SearchRequest, found: Vec<Candidate<'a>>) -> Vec<Candidate<'a>>
     ensures { result.items ≡ filter (λ (one : Found). key_past request.now.sort request.now.after one.key) found.entry.items }
 {

@@ -1,3 +1,4 @@
+//! What a search asks for.
 ghost use Rattle.std.specs.Prelude.{◌≡◌, IfOk};
 
 use es_query::Query;
@@ -7,7 +8,7 @@ use slice_rule::Slice;
 use std::alloc::Global;
 
 /// What a search asks for: the rows that match, of a slice where one is given, in the order of `sort`, and of those strictly
-/// behind the values `after`, where they are given, at most `size` without the first `from`. The number of phases is that of its
+/// after the values `after`, where they are given, at most `size` without the first `from`. The number of phases is that of its
 /// batches: the tops of `batch` shards would be brought together at a time.
 #[derive(Drop)]
 pub struct SearchRequest {

@@ -1,3 +1,4 @@
+//! What a search is asked of.
 use es_types::{Bounds, IndexName, Mapping, Row};
 
 /// The rows of a shard that a search sees, and between which values those of each field lie.

@@ -1,3 +1,4 @@
+//! Closings of points in time.
 ghost use Rattle.std.specs.Prelude.{◌≡◌, ◌==◌, ◌≤◌, All, length, map};
 ghost use Rattle.std.specs.List.{list_any};
 ghost use Rattle.list_machine.specs.declared.event.Event.TheVariants.{Close};

@@ -1,3 +1,4 @@
+//! New indexes.
 ghost use Rattle.std.specs.Prelude.{◌≡◌, ◌≤◌, IfOk, OnErr, None, length, replicate, sum_by};
 ghost use Rattle.list_machine.specs.declared.event.Event.TheVariants.{Create};
 ghost use Rattle.list_machine.specs.State.{empty_shard, shard_count};

@@ -1,3 +1,4 @@
+//! Contexts that are kept longer.
 ghost use Rattle.std.specs.Prelude.{◌≡◌, map};
 ghost use Rattle.list_machine.specs.Seen.Stores.{context_seen, contexts_seen, kept_longer, raised};
 

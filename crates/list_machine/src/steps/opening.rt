@@ -1,3 +1,4 @@
+//! Openings of points in time.
 ghost use Rattle.std.specs.Prelude.{◌≡◌, ◌+◌, ◌≤◌, IfOk, OnErr, map, count_by};
 ghost use Rattle.list_machine.specs.declared.event.Event.TheVariants.{OpenPit};
 ghost use Rattle.list_machine.specs.State.{is_live, pit, view_of};

@@ -1,3 +1,4 @@
+//! Publishes: sealed operations become rows.
 ghost use Rattle.std.specs.Prelude.{◌≡◌, ◌+◌, ◌<◌, ◌≤◌, ◌^◌, ◌++◌, [], filter, not, OnOk, IfOk, OnErr, All, vec_capacity, vec_len};
 ghost use Rattle.std.specs.BTreeSet.{contains_text};
 ghost use Rattle.list_machine.specs.declared.event.Event.TheVariants.{Publish};

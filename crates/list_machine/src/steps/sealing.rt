@@ -1,3 +1,4 @@
+//! Seals: waiting operations become a batch.
 ghost use Rattle.std.specs.Prelude.{◌≡◌, ◌≤◌, IfOk, All, map};
 ghost use Rattle.list_machine.specs.declared.event.Event.TheVariants.{Seal};
 ghost use Rattle.list_machine.specs.Rows.{last_number as last_number_of};

@@ -1,3 +1,4 @@
+//! Searches of indexes and of points in time.
 ghost use Rattle.std.specs.Prelude.{◌≡◌, ℕ, ◌==◌, List, find, length, map, All, IfOk, OnErr, option_copied};
 ghost use Rattle.es_types.specs.declared.row.Row.{Row as RowOf};
 ghost use Rattle.list_machine.specs.declared.event.Event.TheVariants.{Search};

@@ -1,3 +1,4 @@
+//! Writes: operations that wait.
 ghost use Rattle.std.specs.Prelude.{◌≡◌, ◌≤◌, ℕ, All, IfOk, OnErr, length};
 ghost use Rattle.es_types.specs.declared.limits.TheConstants.{ALL_SHARDS};
 ghost use Rattle.es_types.specs.Fail.{Answers};
@@ -72,7 +73,7 @@ fn write_shard(shard: &mut ShardStore, op: Op) -> Result<Reply, NoMemory>
     Ok(Reply::Wrote { result, seq })
 }
 
-/// The operation that a change of a document is, unless the document has a value that is none of its field.
+/// The operation that a change of a document is, unless the document has a value that is not one of its field.
 pub fn make_op(
     alloc: Global,
     mapping: &Mapping,
@@ -134,7 +135,7 @@ fn stands_in(rows: &[Row], id: &DocId) -> bool
     rows.iter().any(|row| is_same_id(&row.id, id))
 }
 
-/// Whether the id has a row behind an operation, by whether it had one before.
+/// Whether the id has a row after an operation, by whether it had one before.
 fn stands_behind(op: &Op, id: &DocId, stood: bool) -> bool
     ensures { result ≡ stands_after op.now id.now stood }
 {

@@ -1,3 +1,4 @@
+//! Which ids operations write, and which operation is the last of its id.
 ghost use Rattle.std.specs.Prelude.{◌≡◌, ◌||◌, ℕ, List, not, bytes_eq, IfOk, OnOk, OnErr};
 ghost use Rattle.std.specs.BTreeSet.{contains_text};
 ghost use Rattle.list_machine.specs.Seen.Lasts.{AreLasts};

@@ -8,7 +8,7 @@ use Rattle.es_core.specs.declared.turned.Turned.TheVariants.{Later}
 use Rattle.es_core.specs.Plans.{Leaves, kept_on}
 use Rattle.es_core.proofs.Lending.{one_can}
 use Rattle.es_core.proofs.Planned.{is_answered_by, is_refused, page_planned, planned, refused_not, unfit_by}
-use Rattle.es_core.proofs.Searches.{kept_behind, kept_not, missed, none_seen, one_seen, still_live}
+use Rattle.es_core.proofs.Searches.{kept_after, kept_not, missed, none_seen, one_seen, still_live}
 use Rattle.es_core.proofs.contexts.search_pit.Goals as goal
 
 pub returns-in-Err-clause-reply : goal.returns-in-Err-clause-reply
@@ -31,7 +31,7 @@ returns-in-Some-clause-kept c can =
     let one = c.in-Ok.context.now in
     let contexts = c.args.book.now.contexts in
     let same = c.mapping.ensures ∙ ap (λ (it : View). it.mapping) c.body.ensures in
-    kept_behind c.args.moment c.args.number c.args.keep c.args.request.now one false _ (contexts_seen contexts) (contexts_seen contexts)
+    kept_after c.args.moment c.args.number c.args.keep c.args.request.now one false _ (contexts_seen contexts) (contexts_seen contexts)
     (one_seen c.args.number c.args.moment contexts one c.in-Ok.ensures.found)
     (ap is_none (unfit_by one.owner.body c.mapping.result.now c.args.request.now c.refused.result same c.refused.ensures ∙ c.in-Some.is))
     (kept_not c.args.moment c.args.number c.args.keep (contexts_seen contexts))
@@ -67,7 +67,7 @@ returns-clause-kept c can =
     let one = c.in-Ok.context.now in
     let contexts = c.args.book.now.contexts in
     let same = c.mapping.ensures ∙ ap (λ (it : View). it.mapping) c.body.ensures in
-    kept_behind c.args.moment c.args.number c.args.keep c.args.request.now one true _ (contexts_seen contexts) _
+    kept_after c.args.moment c.args.number c.args.keep c.args.request.now one true _ (contexts_seen contexts) _
     (one_seen c.args.number c.args.moment contexts one c.in-Ok.ensures.found)
     (ap is_none (unfit_by one.owner.body c.mapping.result.now c.args.request.now c.refused.result same c.refused.ensures ∙ c.in_default.is))
     (c.keep_longer.ensures.kept ∙ ap (kept_on_answer c.args.moment c.args.number c.args.keep true) c.lend.ensures.same)

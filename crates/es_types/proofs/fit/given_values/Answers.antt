@@ -6,7 +6,7 @@ use Rattle.es_types.proofs.Members.{drop_one_less, values_kept, values_of_none, 
 use Rattle.es_types.proofs.Names.{mapping_rises, placed_from_position}
 use Rattle.es_types.proofs.fit.given_values.Goals as goal
 
--- behind the last member nothing is given
+-- after the last member nothing is given
 pub loop-i-init : goal.loop-i-init
 loop-i-init c =
     ap (map (λ value. value.now)) (c.in_ok-given.ensures.items_if_clones_equal (λ null same. same))

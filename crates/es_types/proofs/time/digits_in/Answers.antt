@@ -1,4 +1,4 @@
--- The digits are counted and read up to the first byte that is none, or to the end.
+-- The digits are counted and read up to the first byte that isn't one, or to the end.
 use Rattle.std.proofs.Common.{◌≡◌, true, get_or, length, sym, ◌∙◌, arith, below_more}
 use Rattle.std.specs.Char.{is_ascii_digit}
 use Rattle.es_types.proofs.Times.{counted, one_digit_more}

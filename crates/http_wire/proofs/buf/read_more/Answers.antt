@@ -18,7 +18,7 @@ returns-in-Ok-clause-read g c =
     let end : ℕ = s.end - moved in
     let count = c.in-Ok.count in
     let mid : List ℕ = c.make_room.new.bytes.items in
-    let new : List ℕ = c.read_behind.new.bytes in
+    let new : List ℕ = c.read_after.new.bytes in
     let step : moved ≤ s.start = c.in-Some.ensures.moved in
     let order : start ≤ end = omega (arith, step, c.buf.invariant) in
     let fits : end + count ≤ length new = c.in-Ok.ensures.within.1 in
@@ -28,7 +28,7 @@ returns-in-Ok-clause-read g c =
     let room : CONNECTION_BYTES - s.taken ≡ c.args.buf.now.room = ap (λ (h : Buffered). h.room) c.buf.view_is in
     let old : take (end - start) (drop start mid) ≡ c.args.buf.now.bytes
     = ap (λ n. take n (drop start mid)) wide ∙ c.in-Some.ensures.same ∙ ap (λ (h : Buffered). h.bytes) c.buf.view_is in
-    let back = take_at new (drop (length new) mid) c.make_room.new.bytes.len (c.read_behind.auto.bytes ∙ c.as_mut_slice.ensures.len) in
+    let back = take_at new (drop (length new) mid) c.make_room.new.bytes.len (c.read_after.auto.bytes ∙ c.as_mut_slice.ensures.len) in
     read_ok c.args.buf.now _ _ _ (drop end new) count
     (ap (λ (l : List ℕ). take ((end + count) - start) (drop start l)) back
     ∙ read_bytes mid new start end count order fits front

@@ -91,8 +91,8 @@ returns-in-Some-cut-clause-next g c =
     = c.in-Some-cut.ensures ∙ ap (λ (l : List ℕ). request_at l n c.in-Some.head) c.held-2.ensures in
     let rest = ap (λ (h : Buffered). h.bytes) c.advance.ensures in
     next_some c.args.buf.now now c.advance.new.self _ _ request (came_trans start.0 more)
-    (λ behind. subst (λ (l : List ℕ). Begins (now.bytes ++ behind) request (l ++ behind)) (sym rest)
-    (begins_at first more.taken now.bytes n c.in-Some.head more.bytes start.1 within parsed request c.in-Ok.ensures.came.1 is behind))
+    (λ later. subst (λ (l : List ℕ). Begins (now.bytes ++ later) request (l ++ later)) (sym rest)
+    (begins_at first more.taken now.bytes n c.in-Some.head more.bytes start.1 within parsed request c.in-Ok.ensures.came.1 is later))
     (ap (λ (h : Buffered). h.room) c.advance.ensures)
 
 pub returns-in-None-clause-next : goal.returns-in-None-clause-next

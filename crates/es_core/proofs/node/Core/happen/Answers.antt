@@ -65,7 +65,7 @@ returns-in-Pit-clause-hands_out c =
     rw is (searched_out c.in-Search.request c.args.self.now.catalog c.in-Pit.number c.args.moment c.in-Pit.keep c.args.self.now.book.contexts
     c.search_pit.new.book.contexts c.search_pit.result c.search_pit.ensures.planned c.search_pit.ensures.leaves)
 
--- ---- where memory may be wanting
+-- ---- where memory may run out
 
 pub returns-in_err-step-in_default-clause-some : goal.returns-in_err-step-in_default-clause-some
 returns-in_err-step-in_default-clause-some c =

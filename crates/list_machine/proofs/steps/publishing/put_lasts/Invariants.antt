@@ -1,4 +1,4 @@
--- What is left makes, behind the rows so far, what all operations make of none behind the first ones.
+-- What is left makes, after the rows so far, what all operations make of none after the first ones.
 use Rattle.std.proofs.Common.{◌≡◌, ◌+◌, ◌<◌, ◌≤◌, ◌^◌, ◌++◌, [], drop, vec_capacity, vec_len}
 use Rattle.list_machine.specs.Seen.Lasts.{are_last}
 use Rattle.list_machine.specs.Rows.{apply_all}

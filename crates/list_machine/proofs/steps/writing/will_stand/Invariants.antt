@@ -1,4 +1,4 @@
--- Whether the id stands behind the operations so far.
+-- Whether the id stands after the operations so far.
 use Rattle.std.proofs.Common.{◌≡◌, ℕ, take}
 use Rattle.list_machine.specs.Rows.{apply_all, has_id}
 use Rattle.list_machine.proofs.steps.writing.will_stand.Given as goal
