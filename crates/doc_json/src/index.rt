@@ -218,8 +218,7 @@ fn is_numeral(text: &[u8]) -> bool
     }
 }
 
-/// Whether these are decimal digits.
-pub fn all_digits(text: &[u8]) -> bool
+fn all_digits(text: &[u8]) -> bool
     ensures { result ≡ list_all is_ascii_digit text.now }
 {
     text.iter().all(|b| b.is_ascii_digit())

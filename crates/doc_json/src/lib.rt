@@ -10,5 +10,5 @@ mod value;
 pub use bulk::{BulkChange, BulkItem, next_bulk};
 pub use document::read_doc;
 pub use fault::BodyFault;
-pub use index::{IndexSpec, all_digits, filled, read_index};
+pub use index::{IndexSpec, filled, read_index};
 pub use value::{is_form, read_data};

@@ -3,20 +3,20 @@
 #![tactic(auto)]
 
 #[cfg(test)]
-mod fields;
+mod es_types_fields;
 #[cfg(test)]
-mod ids;
+mod ctx_ids_calls;
 #[cfg(test)]
-mod outside;
+mod es_outside_calls;
 #[cfg(test)]
-mod queries;
+mod es_query_calls;
 #[cfg(test)]
-mod readers;
+mod reader_gate_calls;
 #[cfg(test)]
-mod slices;
+mod slice_rule_calls;
 #[cfg(test)]
-mod sorts;
+mod es_sort_calls;
 #[cfg(test)]
-mod values;
+mod es_types_calls;
 #[cfg(test)]
-mod wire;
+mod http_wire_calls;

@@ -2,14 +2,14 @@
 #![tactic(auto)]
 
 #[cfg(test)]
-mod bodies;
+mod doc_json_calls;
 #[cfg(test)]
 mod given;
 #[cfg(test)]
-mod queries;
+mod found;
 #[cfg(test)]
-mod replies;
+mod reply_json_calls;
 #[cfg(test)]
-mod routes;
+mod es_rest_calls;
 #[cfg(test)]
-mod searches;
+mod search_json_calls;

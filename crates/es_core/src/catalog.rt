@@ -69,7 +69,7 @@ impl Catalog {
             Event::Write { index, id, change } => self.write(index, id, change),
             Event::Seal { index } => self.seal(index),
             Event::Publish { index, shard, upto } => self.publish(index, *shard, *upto),
-            _ => unreachable!(),
+            _ => unreachable!("the other events are not of indexes alone"),
         }
     }
 

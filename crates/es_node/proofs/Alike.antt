@@ -112,7 +112,7 @@ converse_alike : (limits : Limits) (moment : ℕ) (ask : Ask) (old past new othe
 converse_alike limits moment ask old past new other response said alike fits fit h k =
     let one = talks_alike limits moment (script_of ask) old past new other h.part k.part alike fits fit h.talks h.all k.talks
     k.all in
-    (one.0, h.is ∙ (ap (response_of ask) one.1 ∙ sym k.is))
+    (one.0, same_Some response said (sym h.is ∙ (ap (response_of ask) one.1 ∙ k.is)))
 
 responds_alike : (limits : Limits) (moment : ℕ) (old past new other : History) (request : Request) (response said : Response)
     → AreAlike limits moment old past

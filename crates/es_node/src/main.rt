@@ -6,24 +6,10 @@ ghost use Rattle.std.specs.Prelude.{◌≡◌, ◌↔◌, false};
 ghost use Rattle.es_node.specs.Running.{is_replay};
 
 mod adapter;
-#[cfg(test)]
-mod kept;
 mod laws;
-#[cfg(test)]
-mod limited;
 mod run;
 mod search_exec;
-#[cfg(test)]
-mod searched;
-#[cfg(test)]
-mod session;
-#[cfg(test)]
-mod sessions;
-#[cfg(test)]
-mod sliced;
 mod solo;
-#[cfg(test)]
-mod sorted;
 #[cfg(test)]
 mod tests;
 

@@ -106,8 +106,7 @@ impl Sink for MemSink {
         }
         match self.bytes.extend_from_slice(&piece[..count]) {
             Ok(()) => Ok(count),
-            // The bytes have room.
-            Err(_) => unreachable!(),
+            Err(_) => unreachable!("the bytes have room"),
         }
     }
 }

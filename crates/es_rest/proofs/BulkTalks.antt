@@ -1,5 +1,5 @@
 -- From the items of a bulk to its response.
-use Rattle.std.proofs.Common.{◌≡◌, sym, ap, subst, ◌∙◌, ℕ, Bool, List, [], Option, Ok}
+use Rattle.std.proofs.Common.{◌≡◌, sym, ap, subst, ◌∙◌, ℕ, Bool, List, [], Option, Some, Ok}
 use Rattle.std.specs.Prelude.{if◌then◌else◌}
 use Rattle.list_machine.specs.declared.event.Limits.{Limits}
 use Rattle.list_machine.specs.Run.{History}
@@ -46,8 +46,8 @@ module _ (limits : Limits) (seat moment : ℕ) (index : Option (List ℕ)) (body
 
   -- all was asked
   pub bulk_done : (old mid new : History) (written : Written) (indexes : List (List ℕ)) (fault : Option RestFault) (answer : Response) → ItemsDone limits seat moment items old mid written → indexes ≡ (if refresh then written.changed else [])
-      → RanScript limits seat moment (refreshes indexes) mid new fault → answer ≡ or_fault fault (response.Bulk written.lines.items) → Conversation limits seat moment (Bulk index body refresh) old new answer
+      → RanScript limits seat moment (refreshes indexes) mid new fault → or_fault fault (Some (response.Bulk written.lines.items)) ≡ Some answer → Conversation limits seat moment (Bulk index body refresh) old new answer
   bulk_done old mid new written indexes fault answer d is ran said =
       led_ran limits seat moment (Bulk index body refresh) old mid new d.replies fault answer (led_items old mid written d)
       (subst (λ (l : List (List ℕ)). RanScript limits seat moment (refreshes l) mid new fault) (these_indexes old mid written indexes d is) ran)
-      (said ∙ ap (λ (lines : List BulkLine). or_fault fault (response.Bulk lines)) (d.lines ∙ ap (λ (l : List BulkItem). lines_of l d.replies) these))
+      (ap (λ (lines : List BulkLine). or_fault fault (Some (response.Bulk lines))) (sym (d.lines ∙ ap (λ (l : List BulkItem). lines_of l d.replies) these)) ∙ said)

@@ -44,7 +44,7 @@ each-same [] f g part same = same [] part
 each-same (event ∷ events) f g [] same = refl
 each-same (event ∷ events) f g (said ∷ part) same = each-same events (λ more. f (said.1 ∷ more)) (λ more. g (said.1 ∷ more)) part (λ more rest. same (said.1 ∷ more) rest)
 
-after-same : (events : List Event) (f g : List Reply → Part → Response) (part : Part) → ((more : List Reply) (rest : Part) → f more rest ≡ g more rest) → after_each events f part ≡ after_each events g part
+after-same : (events : List Event) (f g : List Reply → Part → Option Response) (part : Part) → ((more : List Reply) (rest : Part) → f more rest ≡ g more rest) → after_each events f part ≡ after_each events g part
 after-same [] f g part same = same [] part
 after-same (event ∷ events) f g [] same = refl
 after-same (event ∷ events) f g (said ∷ part) same = after-same events (λ more rest. f (said.1 ∷ more) rest) (λ more rest. g (said.1 ∷ more) rest) part (λ more rest. same (said.1 ∷ more) rest)
@@ -64,7 +64,7 @@ module _ (limits : Limits) (seat moment : ℕ) where
     pub replies : List Reply
     pub talks : (later : List Reply → Script) → Talks limits seat moment (each (writes_of all) later) old now part
     pub goes : (later : List Reply → Script) (rest : Part) → each (writes_of all) later (part ++ rest) ≡ each (writes_of left) (λ more. later (replies ++ more)) rest
-    pub after : (later : List Reply → Part → Response) (rest : Part) → after_each (writes_of all) later (part ++ rest) ≡ after_each (writes_of left) (λ more r. later (replies ++ more) r) rest
+    pub after : (later : List Reply → Part → Option Response) (rest : Part) → after_each (writes_of all) later (part ++ rest) ≡ after_each (writes_of left) (λ more r. later (replies ++ more) r) rest
     pub lines : (more : List Reply) → lines_of all (replies ++ more) ≡ written.lines.items ++ lines_of left more
     pub changed : (more : List Reply) → changed_by [] all (replies ++ more) ≡ changed_by written.changed left more
 

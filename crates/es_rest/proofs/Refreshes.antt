@@ -8,6 +8,7 @@ use Rattle.list_machine.specs.declared.event.Limits.{Limits}
 use Rattle.list_machine.specs.Run.{History}
 use Rattle.list_machine.specs.Serving.{Asked, MayHaveAsked, asked}
 use Rattle.es_rest.specs.Led.{EndedBy, Published, WasRefreshed}
+use Rattle.es_rest.specs.declared.refusal.Named.TheVariants as named
 use Rattle.es_rest.specs.Scripts.{CutShort, Part, RanScript, Script, Strayed, Talks, after_seal, is_refused, publishes, refresh, refreshes, refusal, refused}
 use Rattle.es_rest.proofs.Scripts.{cut_first, cut_on, drop_all, drop_at, first_of-none, if_false, if_true, not_refused, refused-append, talks_on, talks_one}
 
@@ -57,7 +58,7 @@ module _ (limits : Limits) (seat moment : ℕ) where
         talks = told_talks index numbers old mid new count upto said t at was;
         goes = λ later rest. told_goes index numbers old mid count upto said t at later rest
             ∙ if_false (is_refused said) None (publishes index (count + 1) (drop (count + 1) numbers) later rest) fine;
-        fine = refused-append t.part ((Publish index count upto, said) ∷ []) t.fine ∙ first_of-none (refusal index said) ∙ not_refused index said fine;
+        fine = refused-append t.part ((Publish index count upto, said) ∷ []) t.fine ∙ first_of-none (refusal (named.Index index) said) ∙ not_refused (named.Index index) said fine;
       }
 
   -- all were published
@@ -82,7 +83,7 @@ module _ (limits : Limits) (seat moment : ℕ) where
       all = λ later. ap (publishes index 0 numbers later) (sym (append-nil (t.part ++ (Publish index count upto, said) ∷ [])))
           ∙ told_goes index numbers old mid count upto said t at later []
           ∙ if_true (is_refused said) None (publishes index (count + 1) (drop (count + 1) numbers) later []) bad;
-      is = refused-append t.part ((Publish index count upto, said) ∷ []) t.fine ∙ first_of-none (refusal index said);
+      is = refused-append t.part ((Publish index count upto, said) ∷ []) t.fine ∙ first_of-none (refusal (named.Index index) said);
     },
     bad,
   )
@@ -137,7 +138,7 @@ module _ (limits : Limits) (seat moment : ℕ) where
           part = (Seal index, said) ∷ [];
           talks = λ later. (new, refl, was, refl);
           all = λ later. none later [];
-          is = first_of-none (refusal index said);
+          is = first_of-none (refusal (named.Index index) said);
         };
         first = λ fine. refl;
       }
@@ -189,7 +190,7 @@ module _ (limits : Limits) (seat moment : ℕ) where
       }
 
   pub cleared_ended : (indexes : List (List ℕ)) (old mid new : History) (count : ℕ) (index : List ℕ) (said : Reply) → Cleared indexes old mid count → slice_get indexes count ≡ Some index
-      → EndedBy limits seat moment index mid new said → RanScript limits seat moment (refreshes indexes) old new (refusal index said)
+      → EndedBy limits seat moment index mid new said → RanScript limits seat moment (refreshes indexes) old new (refusal (named.Index index) said)
   cleared_ended indexes old mid new count index said d at e =
       let later = refreshes (drop (count + 1) indexes) in
       record {

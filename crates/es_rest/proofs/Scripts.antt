@@ -8,7 +8,9 @@ use Rattle.list_machine.specs.declared.event.Limits.{Limits}
 use Rattle.list_machine.specs.Run.{History}
 use Rattle.list_machine.specs.Serving.{Asked, MayHaveAsked, asked}
 use Rattle.reply_json.specs.declared.fault.RestFault.{RestFault}
-use Rattle.es_rest.specs.Scripts.{CutShort, Part, Script, Talks, first_of, is_refused, name_of, refusal, refused}
+use Rattle.es_rest.specs.declared.refusal.Named.{Named}
+use Rattle.es_rest.specs.declared.refusal.Named.TheVariants as named
+use Rattle.es_rest.specs.Scripts.{CutShort, Part, Script, Talks, first_of, is_refused, named_by, refusal, refused}
 
 -- ---- refusals
 
@@ -28,11 +30,11 @@ rest-none (Some fault) b e = absurd (cc)
 pub refused-append : (part more : Part) → refused part ≡ None → refused (part ++ more) ≡ refused more
 refused-append [] more e = refl
 refused-append (said ∷ part) more e =
-    ap (λ r. first_of r (refused (part ++ more))) (first-none (refusal (name_of said.0) said.1) (refused part) e)
-    ∙ refused-append part more (rest-none (refusal (name_of said.0) said.1) (refused part) e)
+    ap (λ r. first_of r (refused (part ++ more))) (first-none (refusal (named_by said.0) said.1) (refused part) e)
+    ∙ refused-append part more (rest-none (refusal (named_by said.0) said.1) (refused part) e)
 
 -- a refusal is one by whatever name
-pub refused_by : (name other : List ℕ) (said : Reply) → is_some (refusal name said) ≡ is_some (refusal other said)
+pub refused_by : (name other : Named) (said : Reply) → is_some (refusal name said) ≡ is_some (refusal other said)
 refused_by name other reply.Done = refl
 refused_by name other (reply.Wrote result seq) = refl
 refused_by name other (reply.Sealed numbers) = refl
@@ -54,8 +56,8 @@ pub none_of : {X : Type 0} (o : Option X) → is_some o ≡ false → o ≡ None
 none_of None e = refl
 none_of (Some x) e = absurd (cc)
 
-pub not_refused : (name : List ℕ) (said : Reply) → is_refused said ≡ false → refusal name said ≡ None
-not_refused name said e = none_of (refusal name said) (refused_by name [] said ∙ e)
+pub not_refused : (name : Named) (said : Reply) → is_refused said ≡ false → refusal name said ≡ None
+not_refused name said e = none_of (refusal name said) (refused_by name (named.Context []) said ∙ e)
 
 pub if_false : {A : Type 0} (b : Bool) (x y : A) → b ≡ false → (if b then x else y) ≡ y
 if_false false x y e = refl

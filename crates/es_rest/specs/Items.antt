@@ -12,6 +12,7 @@ use Rattle.reply_json.specs.declared.response.BulkLine.{BulkLine}
 use Rattle.reply_json.specs.declared.response.BulkOutcome.{BulkOutcome}
 use Rattle.reply_json.specs.declared.response.BulkOutcome.TheVariants as outcome
 use Rattle.es_route.specs.Items.{write_of}
+use Rattle.es_rest.specs.declared.refusal.Named.TheVariants as named
 use Rattle.es_rest.specs.Scripts.{is_refused, refusal}
 
 abbrev pub write_and : Result Event RestFault → List Event → List Event
@@ -31,7 +32,7 @@ is_remove Remove = true
 
 abbrev pub outcome_of : List ℕ → Reply → BulkOutcome
 outcome_of index (reply.Wrote result seq) = outcome.Wrote result seq
-outcome_of index other = outcome.Fault (unwrap_or (refusal index other) fault.NotBuilt)
+outcome_of index other = outcome.Fault (unwrap_or (refusal (named.Index index) other) fault.NotBuilt)
 
 abbrev pub line_of : BulkItem → BulkOutcome → BulkLine
 line_of item outcome = record { remove = is_remove item.change; index = item.index; id = item.id; outcome = outcome }

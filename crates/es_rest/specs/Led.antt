@@ -6,16 +6,21 @@ use Rattle.list_machine.specs.declared.event.Reply.{Reply}
 use Rattle.list_machine.specs.declared.event.Reply.TheVariants.{Sealed}
 use Rattle.list_machine.specs.declared.event.Limits.{Limits}
 use Rattle.list_machine.specs.Run.{History}
-use Rattle.list_machine.specs.Serving.{Asked, HasSealed, MayHaveAsked, asked}
+use Rattle.list_machine.specs.Serving.{Asked, HasSealed, IsAskable, MayHaveAsked, asked}
 use Rattle.doc_json.specs.declared.bulk.BulkItem.{BulkItem}
+use Rattle.es_rest.specs.declared.refusal.Named.{Named}
+use Rattle.es_rest.specs.declared.refusal.Named.TheVariants as named
 use Rattle.reply_json.specs.declared.fault.RestFault.{RestFault}
 use Rattle.reply_json.specs.declared.response.BulkOutcome.TheVariants as outcome
 use Rattle.reply_json.specs.declared.response.Response.{Response}
 use Rattle.reply_json.specs.declared.response.RouteName.{RouteName}
 use Rattle.es_route.specs.declared.ask.Ask.{Ask}
+use Rattle.es_route.specs.declared.ask.Ask.TheVariants.{Bulk, Refresh}
 use Rattle.es_rest.specs.declared.bulk.Written.{Written}
 use Rattle.es_rest.specs.declared.refresh.Refreshed.{Refreshed}
 use Rattle.es_rest.specs.declared.refresh.Refreshed.TheVariants.{All, Ended}
+use Rattle.es_rest.specs.declared.work.Work.{Work}
+use Rattle.es_rest.specs.declared.work.Work.TheVariants as work
 use Rattle.es_route.specs.Items.{write_of}
 use Rattle.es_rest.specs.Items.{changed_by, line_of, lines_of, outcome_of, with_index, writes_of}
 use Rattle.es_rest.specs.Scripts.{CutShort, Part, Script, Stopped, Talks, Went, each, is_refused, publishes, refresh, refusal}
@@ -30,11 +35,11 @@ AreSealed limits history index numbers =
 abbrev pub Published : Limits → ℕ → ℕ → List ℕ → List ℕ → History → History → Option Reply → Type 0
 Published limits seat moment index numbers old new None = Went limits seat moment (publishes index 0 numbers) old new
 Published limits seat moment index numbers old new (Some said) =
-    Stopped limits seat moment (publishes index 0 numbers) old new (refusal index said) × (is_refused said ≡ true)
+    Stopped limits seat moment (publishes index 0 numbers) old new (refusal (named.Index index) said) × (is_refused said ≡ true)
 
 -- a reply ended a refresh: it was refused, or it is the first one
 pub record EndedBy (limits : Limits) (seat moment : ℕ) (index : List ℕ) (old new : History) (said : Reply) : Type 0 where
-  pub stopped : Stopped limits seat moment (refresh index) old new (refusal index said)
+  pub stopped : Stopped limits seat moment (refresh index) old new (refusal (named.Index index) said)
   pub first : is_refused said ≡ false → stopped.part ≡ (Seal index, said) ∷ []
 
 -- an index was refreshed: its Seal answered these numbers
@@ -52,14 +57,20 @@ pub record Led (limits : Limits) (seat moment : ℕ) (events : List Event) (old 
   pub part : Part
   pub talks : (later : List Reply → Script) → Talks limits seat moment (each events later) old new part
   pub goes : (later : List Reply → Script) (rest : Part) → each events later (part ++ rest) ≡ later replies rest
-  pub after : (later : List Reply → Part → Response) (rest : Part) → after_each events later (part ++ rest) ≡ later replies rest
+  pub after : (later : List Reply → Part → Option Response) (rest : Part) → after_each events later (part ++ rest) ≡ later replies rest
 
--- what a request of one event is answered by: the name that its refusal prints, its route, and the indexes that it
--- refreshes where it is taken
-pub record IsLabel (ask : Ask) (event : Event) (name : List ℕ) (route : RouteName) (indexes : List (List ℕ)) : Type 0 where
+-- what a request of one event is answered by: what it names, its route, and the indexes that it refreshes where it is
+-- taken
+pub record IsLabel (ask : Ask) (event : Event) (it : Named) (route : RouteName) (indexes : List (List ℕ)) : Type 0 where
   pub events : events_of ask ≡ event ∷ []
-  pub answer : (said : Reply) (part : Part) → answer_of ask (said ∷ []) part ≡ settled (refusal name said) said route
+  pub answer : (said : Reply) (part : Part) → answer_of ask (said ∷ []) part ≡ Some (settled (refusal it said) said route)
   pub refreshes : (said : Reply) → refreshed_of ask (said ∷ []) ≡ (if is_refused said then [] else indexes)
+
+-- what a request comes to: one event with its label, a bulk, or a refresh
+abbrev pub IsWork : Ask → Work → Type 0
+IsWork ask (work.One event label) = IsLabel ask event label.names label.route label.refreshed.items × ((limits : Limits) (history : History) → IsAskable limits history event)
+IsWork ask (work.Bulk index body refresh) = ask ≡ Bulk index body refresh
+IsWork ask (work.Refresh index) = ask ≡ Refresh index
 
 -- ---- a bulk
 

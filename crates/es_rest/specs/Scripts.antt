@@ -10,6 +10,8 @@ use Rattle.list_machine.specs.Run.{History}
 use Rattle.list_machine.specs.Serving.{Asked, MayHaveAsked, asked}
 use Rattle.reply_json.specs.declared.fault.RestFault.{RestFault}
 use Rattle.reply_json.specs.declared.fault.RestFault.TheVariants as fault
+use Rattle.es_rest.specs.declared.refusal.Named.{Named}
+use Rattle.es_rest.specs.declared.refusal.Named.TheVariants as named
 
 -- events that were asked, each with its reply
 abbrev pub Part : Type 0
@@ -21,34 +23,43 @@ Script = Part → Option Event
 
 -- ---- refusals
 
--- the index that an event names, where it names one
-abbrev pub name_of : Event → List ℕ
-name_of (event.Create index shards mapping) = index
-name_of (event.Write index id change) = index
-name_of (event.Seal index) = index
-name_of (event.Publish index shard upto) = index
-name_of (event.OpenPit index keep) = index
-name_of (event.Search (Index index) request) = index
-name_of (event.Search (Pit number keep) request) = []
-name_of (event.Close which) = []
-name_of event.Quiet = []
+-- what an event names: its index, or else a context, whose id an event doesn't have
+abbrev pub named_by : Event → Named
+named_by (event.Create index shards mapping) = named.Index index
+named_by (event.Write index id change) = named.Index index
+named_by (event.Seal index) = named.Index index
+named_by (event.Publish index shard upto) = named.Index index
+named_by (event.OpenPit index keep) = named.Index index
+named_by (event.Search (Index index) request) = named.Index index
+named_by (event.Search (Pit number keep) request) = named.Context []
+named_by (event.Close which) = named.Context []
+named_by event.Quiet = named.Context []
 
--- why a reply refuses its event
-abbrev pub refusal : List ℕ → Reply → Option RestFault
-refusal name reply.Spent = Some fault.Spent
-refusal name reply.NoIndex = Some (fault.NoIndex name)
-refusal name reply.Exists = Some (fault.Exists name)
-refusal name (reply.BadDoc doc) = Some (fault.BadDoc doc)
-refusal name reply.BadQuery = Some fault.BadQuery
-refusal name reply.BadSort = Some fault.BadSort
-refusal name reply.BadAfter = Some fault.BadAfter
-refusal name reply.Missing = Some (fault.NoContext name)
-refusal name (reply.TooMany limit) = Some (fault.TooMany limit)
-refusal name reply.ShardFull = Some fault.ShardFull
-refusal name other = None
+-- what is named isn't there
+abbrev pub missing : Named → RestFault
+missing (named.Index name) = fault.NoIndex name
+missing (named.Context id) = fault.NoContext id
+
+abbrev pub text_of : Named → List ℕ
+text_of (named.Index name) = name
+text_of (named.Context id) = id
+
+-- why a reply refuses its event, by what its request names
+abbrev pub refusal : Named → Reply → Option RestFault
+refusal it reply.Spent = Some fault.Spent
+refusal it reply.NoIndex = Some (missing it)
+refusal it reply.Exists = Some (fault.Exists (text_of it))
+refusal it (reply.BadDoc doc) = Some (fault.BadDoc doc)
+refusal it reply.BadQuery = Some fault.BadQuery
+refusal it reply.BadSort = Some fault.BadSort
+refusal it reply.BadAfter = Some fault.BadAfter
+refusal it reply.Missing = Some (missing it)
+refusal it (reply.TooMany limit) = Some (fault.TooMany limit)
+refusal it reply.ShardFull = Some fault.ShardFull
+refusal it other = None
 
 abbrev pub is_refused : Reply → Bool
-is_refused said = is_some (refusal [] said)
+is_refused said = is_some (refusal (named.Context []) said)
 
 abbrev pub first_of : Option RestFault → Option RestFault → Option RestFault
 first_of None other = other
@@ -57,7 +68,7 @@ first_of (Some fault) other = Some fault
 -- the first refusal of these
 abbrev pub refused : Part → Option RestFault
 refused [] = None
-refused (said ∷ part) = first_of (refusal (name_of said.0) said.1) (refused part)
+refused (said ∷ part) = first_of (refusal (named_by said.0) said.1) (refused part)
 
 -- ---- scripts
 

@@ -14,6 +14,8 @@ use Rattle.list_machine.specs.declared.event.Which.TheVariants.{Pits}
 use Rattle.list_machine.specs.declared.event.Limits.{Limits}
 use Rattle.list_machine.specs.Run.{History, state_of}
 use Rattle.list_machine.specs.Serving.{GrowsBeside, applied}
+use Rattle.es_rest.specs.declared.refusal.Named.{Named}
+use Rattle.es_rest.specs.declared.refusal.Named.TheVariants as named
 use Rattle.reply_json.specs.declared.fault.RestFault.{RestFault}
 use Rattle.reply_json.specs.declared.fault.RestFault.TheVariants as fault
 use Rattle.reply_json.specs.declared.response.Response.{Response}
@@ -70,15 +72,15 @@ abbrev pub settled : Option RestFault → Reply → RouteName → Response
 settled (Some fault) said to = response.Fault fault
 settled None said to = response.Json (status_of said) said to
 
--- what the one event of a request is answered
-abbrev pub one_answer : List ℕ → RouteName → List Reply → Response
-one_answer name to [] = response.Fault fault.NotBuilt
-one_answer name to (said ∷ replies) = settled (refusal name said) said to
+-- what the one event of a request is answered, once it has a reply
+abbrev pub one_answer : Named → RouteName → List Reply → Option Response
+one_answer it to [] = None
+one_answer it to (said ∷ replies) = Some (settled (refusal it said) said to)
 
 -- what a refresh is answered: the reply to its Seal
-abbrev pub seal_answer : Part → Response
-seal_answer [] = response.Fault fault.NotBuilt
-seal_answer (said ∷ part) = response.Json (status_of said.1) said.1 route.Refresh
+abbrev pub seal_answer : Part → Option Response
+seal_answer [] = None
+seal_answer (said ∷ part) = Some (response.Json (status_of said.1) said.1 route.Refresh)
 
 -- how the answer of a search is printed
 abbrev pub search_route : Target → RouteName
@@ -90,34 +92,34 @@ abbrev pub sent_text : Option ContextId → List ℕ
 sent_text None = []
 sent_text (Some id) = text_of id
 
--- what the refusal of a search names: the index, or the id as it was sent
-abbrev pub search_name : Target → Option ContextId → List ℕ
-search_name (Index index) sent = index
-search_name (Pit number keep) sent = sent_text sent
+-- what a search names: the index, or the context by its id as it was sent
+abbrev pub search_named : Target → Option ContextId → Named
+search_named (Index index) sent = named.Index index
+search_named (Pit number keep) sent = named.Context (sent_text sent)
 
 -- what the replies are answered, where no refresh was refused
-abbrev pub answer_of : Ask → List Reply → Part → Response
-answer_of (Create index spec) replies part = one_answer index (route.Create index) replies
-answer_of (Put index id doc refresh) replies part = one_answer index (route.Put index id) replies
-answer_of (Remove index id refresh) replies part = one_answer index (route.Remove index id) replies
-answer_of (Bulk index body refresh) replies part = response.Bulk (lines_of (items_in (items_of index body)) replies)
+abbrev pub answer_of : Ask → List Reply → Part → Option Response
+answer_of (Create index spec) replies part = one_answer (named.Index index) (route.Create index) replies
+answer_of (Put index id doc refresh) replies part = one_answer (named.Index index) (route.Put index id) replies
+answer_of (Remove index id refresh) replies part = one_answer (named.Index index) (route.Remove index id) replies
+answer_of (Bulk index body refresh) replies part = Some (response.Bulk (lines_of (items_in (items_of index body)) replies))
 answer_of (Refresh index) replies part = seal_answer part
-answer_of (OpenPit index keep) replies part = one_answer index route.OpenPit replies
-answer_of (ClosePit number) replies part = one_answer [] route.ClosePit replies
-answer_of (Search target request sent) replies part = one_answer (search_name target sent) (search_route target) replies
+answer_of (OpenPit index keep) replies part = one_answer (named.Index index) route.OpenPit replies
+answer_of (ClosePit number) replies part = one_answer (named.Context []) route.ClosePit replies
+answer_of (Search target request sent) replies part = one_answer (search_named target sent) (search_route target) replies
 
-abbrev pub or_fault : Option RestFault → Response → Response
-or_fault (Some why) answer = response.Fault why
+abbrev pub or_fault : Option RestFault → Option Response → Option Response
+or_fault (Some why) answer = Some (response.Fault why)
 or_fault None answer = answer
 
--- what follows from the replies to these events, and from the part after them
-abbrev pub after_each : List Event → (List Reply → Part → Response) → Part → Response
+-- what follows from the replies to these events, and from the part after them; nothing while an event has no reply
+abbrev pub after_each : List Event → (List Reply → Part → Option Response) → Part → Option Response
 after_each [] later part = later [] part
-after_each (event ∷ events) later [] = response.Fault fault.NotBuilt
+after_each (event ∷ events) later [] = None
 after_each (event ∷ events) later (said ∷ part) = after_each events (λ replies rest. later (said.1 ∷ replies) rest) part
 
--- what a request is answered: a refused refresh has the last word
-unfoldable pub response_of : Ask → Part → Response
+-- what a request is answered, once all of its events have replies: a refused refresh has the last word
+unfoldable pub response_of : Ask → Part → Option Response
 response_of ask part = after_each (events_of ask) (λ replies rest. or_fault (refused rest) (answer_of ask replies rest)) part
 
 -- ---- what became of the history
@@ -127,7 +129,7 @@ pub record Conversation (limits : Limits) (seat moment : ℕ) (ask : Ask) (old n
   pub part : Part
   pub talks : Talks limits seat moment (script_of ask) old new part
   pub all : script_of ask part ≡ None
-  pub is : response ≡ response_of ask part
+  pub is : response_of ask part ≡ Some response
 
 -- memory ran out on the way
 abbrev pub Interrupted : Limits → ℕ → ℕ → Ask → History → History → Type 0

@@ -9,7 +9,8 @@ ghost use Rattle.es_rest.specs.Led.{BulkCut, ItemCut, ItemDone, ItemsDone};
 ghost use Rattle.es_rest.specs.Talk.{Conversation, Interrupted};
 
 use crate::items::{line_of, outcome_of};
-use crate::refresh::{is_refused, refresh_all};
+use crate::refresh::refresh_all;
+use crate::refusal::is_refused;
 use doc_json::{BulkItem, next_bulk};
 use es_route::write_of;
 use es_types::{Bytes, Copied, Fail, IndexName, Items, Moment, NoMemory, Text};

@@ -2,7 +2,7 @@
 ghost use Rattle.std.specs.Prelude.{◌≡◌, IfOk};
 ghost use Rattle.es_rest.specs.Items.{line_of, outcome_of};
 
-use crate::refresh::refusal;
+use crate::refusal::{Named, refusal};
 use doc_json::{BulkChange, BulkItem};
 use es_types::{Copied, NoMemory, Text};
 use list_machine::Reply;
@@ -15,7 +15,7 @@ pub fn outcome_of(alloc: Global, index: &Text, reply: Reply) -> Result<BulkOutco
 {
     match reply {
         Reply::Wrote { result, seq } => Ok(BulkOutcome::Wrote { result, seq }),
-        other => match refusal(index.copy(alloc)?, &other) {
+        other => match refusal(Named::Index(index.copy(alloc)?), &other) {
             Some(fault) => Ok(BulkOutcome::Fault(fault)),
             None => Ok(BulkOutcome::Fault(RestFault::NotBuilt)),
         },

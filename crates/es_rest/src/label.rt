@@ -1,18 +1,20 @@
 //! By what requests of one event are answered.
 ghost use Rattle.std.specs.Prelude.{◌≡◌, [], ◌∷◌, IfOk, if◌then◌else◌};
-ghost use Rattle.es_rest.specs.Talk.{search_name, search_route, sent_text};
+ghost use Rattle.es_rest.specs.declared.refusal.Named.TheVariants as named;
+ghost use Rattle.es_rest.specs.Talk.{search_named, search_route, sent_text};
 
+use crate::refusal::Named;
 use ctx_ids::ContextId;
 use es_types::{Copied, DocId, IndexName, NoMemory, Text};
 use list_machine::Target;
 use reply_json::RouteName;
 use std::alloc::Global;
 
-/// By what a request of one event is answered: the name that its refusal prints, its route, and the index that it
-/// refreshes where it is taken.
+/// By what a request of one event is answered: what it names, its route, and the index that it refreshes where it is
+/// taken.
 #[derive(Drop)]
 pub struct Label {
-    pub name: Text,
+    pub names: Named,
     pub route: RouteName,
     pub refreshed: Vec<IndexName>,
 }
@@ -28,6 +30,21 @@ fn refreshed_if(alloc: Global, refresh: bool, index: &IndexName) -> Result<Vec<I
     Ok(indexes)
 }
 
+/// By what a request of an index on that route is answered, where it refreshes none.
+pub fn index_label(alloc: Global, index: &IndexName, route: RouteName) -> Result<Label, NoMemory>
+    ensures names { IfOk result (λ label. label.names ≡ named.Index index.now) }
+    ensures route { IfOk result (λ label. label.route ≡ route) }
+    ensures refreshed { IfOk result (λ label. label.refreshed.items ≡ []) }
+{
+    let refreshed = Vec::new(alloc);
+    let names = Named::Index(index.text().copy(alloc)?);
+    Ok(Label {
+        names,
+        route,
+        refreshed,
+    })
+}
+
 /// By what the put of a document is answered.
 pub fn put_label(
     alloc: Global,
@@ -35,16 +52,16 @@ pub fn put_label(
     id: &DocId,
     refresh: bool,
 ) -> Result<Label, NoMemory>
-    ensures name { IfOk result (λ label. label.name ≡ index.now) }
+    ensures names { IfOk result (λ label. label.names ≡ named.Index index.now) }
     ensures route { IfOk result (λ label. label.route ≡ RouteName.Put index.now id.now) }
     ensures refreshed { IfOk result (λ label. label.refreshed.items ≡ (if refresh then index.now ∷ [] else [])) }
 {
     let refreshed = refreshed_if(alloc, refresh, index)?;
-    let name = index.text().copy(alloc)?;
+    let names = Named::Index(index.text().copy(alloc)?);
     let index = index.copy(alloc)?;
     let id = id.copy(alloc)?;
     Ok(Label {
-        name,
+        names,
         route: RouteName::Put { index, id },
         refreshed,
     })
@@ -57,16 +74,16 @@ pub fn remove_label(
     id: &DocId,
     refresh: bool,
 ) -> Result<Label, NoMemory>
-    ensures name { IfOk result (λ label. label.name ≡ index.now) }
+    ensures names { IfOk result (λ label. label.names ≡ named.Index index.now) }
     ensures route { IfOk result (λ label. label.route ≡ RouteName.Remove index.now id.now) }
     ensures refreshed { IfOk result (λ label. label.refreshed.items ≡ (if refresh then index.now ∷ [] else [])) }
 {
     let refreshed = refreshed_if(alloc, refresh, index)?;
-    let name = index.text().copy(alloc)?;
+    let names = Named::Index(index.text().copy(alloc)?);
     let index = index.copy(alloc)?;
     let id = id.copy(alloc)?;
     Ok(Label {
-        name,
+        names,
         route: RouteName::Remove { index, id },
         refreshed,
     })
@@ -88,19 +105,19 @@ pub fn search_label(
     target: &Target,
     sent: Option<ContextId>,
 ) -> Result<Label, NoMemory>
-    ensures name { IfOk result (λ label. label.name ≡ search_name target.now sent) }
+    ensures names { IfOk result (λ label. label.names ≡ search_named target.now sent) }
     ensures route { IfOk result (λ label. label.route ≡ search_route target.now) }
     ensures refreshed { IfOk result (λ label. label.refreshed.items ≡ []) }
 {
     let refreshed = Vec::new(alloc);
     match target {
         Target::Index(index) => Ok(Label {
-            name: index.text().copy(alloc)?,
+            names: Named::Index(index.text().copy(alloc)?),
             route: RouteName::Search { pit: None },
             refreshed,
         }),
         Target::Pit { number, keep: _ } => Ok(Label {
-            name: sent_text(alloc, sent)?,
+            names: Named::Context(sent_text(alloc, sent)?),
             route: RouteName::Search { pit: Some(*number) },
             refreshed,
         }),

@@ -8,7 +8,9 @@ mod converse;
 mod items;
 mod label;
 mod refresh;
+mod refusal;
 mod single;
+mod work;
 
 pub use connection::{ConnEnd, serve_connection};
 pub use es_route::{Ask, pit_searches_show_places, route};

@@ -1,52 +1,15 @@
 //! Refreshes of indexes.
-ghost use Rattle.std.specs.Prelude.{◌≡◌, ◌≤◌, ℕ, List, None, MatchResult, is_some, length};
+ghost use Rattle.std.specs.Prelude.{◌≡◌, ◌≤◌, ℕ, List, None, MatchResult, length};
 ghost use Rattle.es_types.specs.declared.limits.TheConstants.{ALL_SHARDS};
 ghost use Rattle.list_machine.specs.declared.event.Reply.TheVariants as replies;
 ghost use Rattle.es_rest.specs.Led.{AreSealed, Published, RefreshWent};
-ghost use Rattle.es_rest.specs.Scripts.{CutShort, Part, RanScript, Script, Strayed, after_seal, publishes, refresh, refreshes, refusal};
+ghost use Rattle.es_rest.specs.Scripts.{CutShort, Part, RanScript, Script, Strayed, after_seal, publishes, refresh, refreshes};
 
-use es_types::{Copied, IndexName, Items, Moment, NoMemory, Text};
+use crate::refusal::{Named, is_refused, refusal};
+use es_types::{Copied, IndexName, Items, Moment, NoMemory};
 use list_machine::{Event, Reply, Service, sound_states};
 use reply_json::RestFault;
 use std::alloc::Global;
-
-/// Why a reply refuses its event, where it does. The request names `name`.
-pub fn refusal(name: Text, reply: &Reply) -> Option<RestFault>
-    ensures { result ≡ refusal name reply.now }
-{
-    match reply {
-        Reply::Spent => Some(RestFault::Spent),
-        Reply::NoIndex => Some(RestFault::NoIndex(name)),
-        Reply::Exists => Some(RestFault::Exists(name)),
-        Reply::BadDoc(fault) => Some(RestFault::BadDoc(*fault)),
-        Reply::BadQuery => Some(RestFault::BadQuery),
-        Reply::BadSort => Some(RestFault::BadSort),
-        Reply::BadAfter => Some(RestFault::BadAfter),
-        Reply::Missing => Some(RestFault::NoContext(name)),
-        Reply::TooMany { limit } => Some(RestFault::TooMany(*limit)),
-        Reply::ShardFull => Some(RestFault::ShardFull),
-        _ => None,
-    }
-}
-
-/// Whether a reply refuses its event.
-pub fn is_refused(reply: &Reply) -> bool
-    ensures { (name : List ℕ) → result ≡ is_some (refusal name reply.now) }
-{
-    match reply {
-        Reply::Spent
-        | Reply::NoIndex
-        | Reply::Exists
-        | Reply::Missing
-        | Reply::BadDoc(_)
-        | Reply::BadQuery
-        | Reply::BadSort
-        | Reply::BadAfter
-        | Reply::TooMany { limit: _ }
-        | Reply::ShardFull => true,
-        _ => false,
-    }
-}
 
 /// How the refresh of an index went: the numbers that were sealed, or the reply that ended it.
 #[derive(Drop)]
@@ -139,10 +102,10 @@ pub fn refresh_all<V: Service>(
     ensures limits { V.limits service.new ≡ V.limits service.old }
 {
     for index in indexes {
-        let name = index.text().copy(alloc)?;
+        let names = Named::Index(index.text().copy(alloc)?);
         match refresh_index(alloc, service, index, moment)? {
             Refreshed::All(_) => {}
-            Refreshed::Ended(said) => return Ok(refusal(name, &said)),
+            Refreshed::Ended(said) => return Ok(refusal(names, &said)),
         }
     }
     Ok(None)

@@ -6,7 +6,8 @@ ghost use Rattle.es_rest.specs.Led.{IsLabel};
 ghost use Rattle.es_rest.specs.Talk.{Conversation, Interrupted, settled, status_of};
 
 use crate::label::Label;
-use crate::refresh::{refresh_all, refusal};
+use crate::refresh::refresh_all;
+use crate::refusal::refusal;
 use es_types::{Moment, NoMemory};
 use list_machine::{Event, Reply, Service};
 use reply_json::{Response, RestFault, RouteName, closed_status, wrote_status};
@@ -45,14 +46,14 @@ pub fn ask_one<V: Service>(
     moment: Moment,
 ) -> Result<Response, NoMemory>
     requires { IsAskable (V.limits service.old) (V.front service.old) event }
-    ensures talk { (ask : Ask) → IsLabel ask event label.name label.route label.refreshed.items → MatchResult result
+    ensures talk { (ask : Ask) → IsLabel ask event label.names label.route label.refreshed.items → MatchResult result
         (Conversation (V.limits service.old) (V.seat service.old) moment ask (V.front service.old) (V.front service.new))
         (λ _. Interrupted (V.limits service.old) (V.seat service.old) moment ask (V.front service.old) (V.front service.new)) }
     ensures seat { V.seat service.new ≡ V.seat service.old }
     ensures limits { V.limits service.new ≡ V.limits service.old }
 {
     let reply = service.ask(event, moment)?;
-    match refusal(label.name, &reply) {
+    match refusal(label.names, &reply) {
         Some(fault) => return Ok(Response::Fault(fault)),
         None => {}
     }

@@ -5,5 +5,4 @@ pub mod Parts
 pub mod Asks
 pub mod Ranks
 pub mod Shards
-pub mod Numerals
 pub mod Shows

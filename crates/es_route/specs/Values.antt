@@ -1,8 +1,6 @@
 -- The values that a query gives for the parameters that a route takes.
-use Rattle.std.specs.Prelude.{ℕ, ◌||◌, ◌&&◌, nat_le, Bool, true, false, bytes_eq, if◌then◌else◌, List, [], ◌∷◌, length, Option, Some, None, option_and_then, option_map, Result, Ok, Err, codes}
-use Rattle.std.specs.Char.{is_ascii_digit}
-use Rattle.std.specs.List.{list_all}
-use Rattle.std.specs.Str.Parse.{digits_value}
+use Rattle.std.specs.Prelude.{ℕ, ◌||◌, Bool, true, false, bytes_eq, if◌then◌else◌, List, [], ◌∷◌, Option, Some, None, option_and_then, option_map, Result, Ok, Err, codes}
+use Rattle.http_wire.specs.Heads.{number_of}
 use Rattle.search_json.specs.Pits.{context_keep}
 use Rattle.reply_json.specs.declared.fault.RestFault.{RestFault}
 use Rattle.reply_json.specs.declared.fault.RestFault.TheVariants.{BadParam}
@@ -31,13 +29,9 @@ refresh_value value =
     if bytes_eq value [] || bytes_eq value (codes "true") || bytes_eq value (codes "wait_for") then Some true
     else (if bytes_eq value (codes "false") then Some false else None)
 
--- 1 to 9 decimal digits
-abbrev pub are_digits : List ℕ → Bool
-are_digits text = nat_le 1 (length text) && (nat_le (length text) 9 && list_all is_ascii_digit text)
-
--- the number that such digits are
-unfoldable pub batch_value : List ℕ → Option ℕ
-batch_value text = if are_digits text then Some (digits_value 10 text) else None
+-- the number that 1 to 9 decimal digits are
+abbrev pub batch_value : List ℕ → Option ℕ
+batch_value text = number_of 9 999999999 text
 
 -- a value that isn't the second one
 abbrev pub once : {A : Type 0} → Option A → Option A → Option A

@@ -1,12 +1,11 @@
 //! The values that a query gives for the parameters that a route takes.
 ghost use Rattle.std.specs.Prelude.{◌≡◌};
 ghost use Rattle.es_route.specs.Answers.{Answers};
-ghost use Rattle.es_route.specs.Values.{are_digits, batch_value, key_of, key_text, needed, read_params, refresh_value, values_in, with_param, with_value};
+ghost use Rattle.es_route.specs.Values.{batch_value, key_of, key_text, needed, read_params, refresh_value, values_in, with_param, with_value};
 
 use crate::params::{Param, params_of};
-use doc_json::all_digits;
 use es_types::{Copied, KeepAlive, Text};
-use http_wire::Request;
+use http_wire::{Request, number};
 use reply_json::RestFault;
 use search_json::context_keep;
 use std::alloc::Global;
@@ -68,22 +67,12 @@ fn refresh_value(value: &str) -> Option<bool>
     }
 }
 
-fn are_digits(text: &[u8]) -> bool
-    ensures { result ≡ are_digits text.now }
-{
-    !text.is_empty() && text.len() <= 9 && all_digits(text)
-}
-
-#[tactic(auto, unfolding(crate::specs::Values::batch_value))]
 fn batch_value(text: &str) -> Option<u32>
     ensures { result ≡ batch_value text.now }
 {
-    if !are_digits(text.as_bytes()) {
-        return None;
-    }
-    match text.parse::<u32>() {
-        Ok(n) => Some(n),
-        Err(_) => None,
+    match number(text.as_bytes(), 9, 999_999_999) {
+        Some(n) => Some(n as u32),
+        None => None,
     }
 }
 

@@ -33,7 +33,7 @@ pub use limits::{
     SORT_KEYS, USUAL_BATCH, USUAL_PITS, USUAL_SIZE, WINDOW,
 };
 pub use mapping::{Field, FieldKind, Mapping};
-pub use name::{DocId, FieldName, IndexName};
+pub use name::{DocId, DocIds, FieldName, FieldNames, IndexName, IndexNames, Name, NameRule};
 pub use row::{Op, Row, Value};
 pub use text::{Bytes, Text};
 pub use time::{BadTime, KeepAlive, Moment};

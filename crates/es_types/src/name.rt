@@ -1,80 +1,43 @@
-//! Names of indexes and fields, and ids of documents.
-ghost use Rattle.std.specs.Prelude.{◌≡◌, ◌==◌, not, MatchResult, IsTrue, IsFalse};
+//! Names of indexes and fields, and ids of documents: texts that a rule allows.
+ghost use Rattle.std.specs.Prelude.{◌≡◌, ◌==◌, ℕ, Bool, List, not, MatchResult, IsTrue, IsFalse};
 ghost use Rattle.std.specs.List.{list_all};
 ghost use Rattle.es_types.specs.Name.{is_doc_id, is_field_name, is_index_byte, is_index_name, is_lower_or_digit};
 
 use crate::{Copied, NoMemory, Text};
 use std::alloc::Global;
-use std::marker::Model;
+use std::marker::{Model, PhantomData};
 
-/// The id of a document: a text of 1 to 512 bytes.
+/// Which texts are names of a kind.
+pub trait NameRule {
+    ghost is_name: { List ℕ → Bool };
+
+    fn allows(text: &str) -> bool
+        ensures { result ≡ is_name text.now };
+}
+
+/// A text that a rule allows.
 #[derive(Drop)]
-pub struct DocId(Text);
+pub struct Name<R: NameRule>(Text, PhantomData<R>);
 
-impl Model for DocId {
+impl<R: NameRule> Model for Name<R> {
     ghost use Rattle.std.specs.Prelude.{List, ℕ, IsTrue};
-    ghost use Rattle.es_types.specs.Name.{is_doc_id};
-
-    ghost Value = { List ℕ };
-
-    ghost view = { λ d. d.0 };
-
-    ghost invariant = { λ d. IsTrue (is_doc_id d.0) };
-}
-
-impl DocId {
-    /// Hands the text back where it is no id.
-    pub fn make(text: Text) -> Result<DocId, Text>
-        ensures { MatchResult result
-            (λ id. (id ≡ text) × IsTrue (is_doc_id text))
-            (λ back. (back ≡ text) × IsFalse (is_doc_id text)) }
-    {
-        if is_id(text.as_str()) {
-            Ok(DocId(text))
-        } else {
-            Err(text)
-        }
-    }
-
-    pub fn text(&self) -> &Text
-        ensures value { result.now ≡ self.now }
-        ensures valid { IsTrue (is_doc_id self.now) }
-    {
-        &self.0
-    }
-}
-
-fn is_id(text: &str) -> bool
-    ensures { result ≡ is_doc_id text.now }
-{
-    !text.is_empty() && text.len() <= 512
-}
-
-/// The name of an index: 1 to 255 bytes of `a` to `z`, `0` to `9`, `_`, `-` and `.`, of which the first
-/// is a letter or a digit.
-#[derive(Drop)]
-pub struct IndexName(Text);
-
-impl Model for IndexName {
-    ghost use Rattle.std.specs.Prelude.{List, ℕ, IsTrue};
-    ghost use Rattle.es_types.specs.Name.{is_index_name};
 
     ghost Value = { List ℕ };
 
     ghost view = { λ n. n.0 };
 
-    ghost invariant = { λ n. IsTrue (is_index_name n.0) };
+    ghost invariant = { λ n. IsTrue (R.is_name n.0) };
 }
 
-impl IndexName {
-    /// Hands the text back where it is no name of an index.
-    pub fn make(text: Text) -> Result<IndexName, Text>
+impl<R: NameRule> Name<R> {
+    /// Hands the text back where it is no name of that kind.
+    pub fn make(text: Text) -> Result<Name<R>, Text>
         ensures { MatchResult result
-            (λ name. (name ≡ text) × IsTrue (is_index_name text))
-            (λ back. (back ≡ text) × IsFalse (is_index_name text)) }
+            (λ name. (name ≡ text) × IsTrue (R.is_name text))
+            (λ back. (back ≡ text) × IsFalse (R.is_name text)) }
     {
-        if names_index(text.as_str().as_bytes()) {
-            Ok(IndexName(text))
+        if R::allows(text.as_str()) {
+            Ok(Name(text, PhantomData))
         } else {
             Err(text)
         }
@@ -82,9 +45,58 @@ impl IndexName {
 
     pub fn text(&self) -> &Text
         ensures value { result.now ≡ self.now }
-        ensures valid { IsTrue (is_index_name self.now) }
+        ensures valid { IsTrue (R.is_name self.now) }
     {
         &self.0
+    }
+}
+
+impl<R: NameRule> Copied for Name<R> {
+    fn copy(&self, alloc: Global) -> Result<Name<R>, NoMemory> {
+        Ok(Name(self.0.copy(alloc)?, PhantomData))
+    }
+}
+
+/// The id of a document: a text of 1 to 512 bytes.
+pub type DocId = Name<DocIds>;
+
+/// The name of an index: 1 to 255 bytes of `a` to `z`, `0` to `9`, `_`, `-` and `.`, of which the first
+/// is a letter or a digit.
+pub type IndexName = Name<IndexNames>;
+
+/// The name of a field: 1 to 255 bytes with no `.`, of which the first is no `_`.
+pub type FieldName = Name<FieldNames>;
+
+/// The rule of ids of documents.
+pub struct DocIds;
+
+/// The rule of names of indexes.
+pub struct IndexNames;
+
+/// The rule of names of fields.
+pub struct FieldNames;
+
+impl NameRule for DocIds {
+    ghost is_name = { is_doc_id };
+
+    fn allows(text: &str) -> bool {
+        !text.is_empty() && text.len() <= 512
+    }
+}
+
+impl NameRule for IndexNames {
+    ghost is_name = { is_index_name };
+
+    fn allows(text: &str) -> bool {
+        names_index(text.as_bytes())
+    }
+}
+
+impl NameRule for FieldNames {
+    ghost is_name = { is_field_name };
+
+    fn allows(text: &str) -> bool {
+        names_field(text.as_bytes())
     }
 }
 
@@ -109,43 +121,6 @@ fn lower_or_digit(b: u8) -> bool
     (b'a' <= b && b <= b'z') || (b'0' <= b && b <= b'9')
 }
 
-/// The name of a field: 1 to 255 bytes with no `.`, of which the first is no `_`.
-#[derive(Drop)]
-pub struct FieldName(Text);
-
-impl Model for FieldName {
-    ghost use Rattle.std.specs.Prelude.{List, ℕ, IsTrue};
-    ghost use Rattle.es_types.specs.Name.{is_field_name};
-
-    ghost Value = { List ℕ };
-
-    ghost view = { λ n. n.0 };
-
-    ghost invariant = { λ n. IsTrue (is_field_name n.0) };
-}
-
-impl FieldName {
-    /// Hands the text back where it is no name of a field.
-    pub fn make(text: Text) -> Result<FieldName, Text>
-        ensures { MatchResult result
-            (λ name. (name ≡ text) × IsTrue (is_field_name text))
-            (λ back. (back ≡ text) × IsFalse (is_field_name text)) }
-    {
-        if names_field(text.as_str().as_bytes()) {
-            Ok(FieldName(text))
-        } else {
-            Err(text)
-        }
-    }
-
-    pub fn text(&self) -> &Text
-        ensures value { result.now ≡ self.now }
-        ensures valid { IsTrue (is_field_name self.now) }
-    {
-        &self.0
-    }
-}
-
 fn names_field(text: &[u8]) -> bool
     ensures { result ≡ is_field_name text.now }
 {
@@ -159,22 +134,4 @@ fn has_no_dot(text: &[u8]) -> bool
     ensures { result ≡ list_all (λ b. not (b == 46)) text.now }
 {
     text.iter().all(|b| *b != b'.')
-}
-
-impl Copied for DocId {
-    fn copy(&self, alloc: Global) -> Result<DocId, NoMemory> {
-        Ok(DocId(self.0.copy(alloc)?))
-    }
-}
-
-impl Copied for IndexName {
-    fn copy(&self, alloc: Global) -> Result<IndexName, NoMemory> {
-        Ok(IndexName(self.0.copy(alloc)?))
-    }
-}
-
-impl Copied for FieldName {
-    fn copy(&self, alloc: Global) -> Result<FieldName, NoMemory> {
-        Ok(FieldName(self.0.copy(alloc)?))
-    }
 }

@@ -25,7 +25,7 @@ pub(crate) fn make_request(
 {
     let method = make_method(alloc, method)?;
     let Ok(target) = str::from_utf8(target) else {
-        unreachable!()
+        unreachable!("a target is UTF-8")
     };
     let (path, query) = split_target(target);
     Some(Request {
@@ -45,7 +45,7 @@ fn make_method(alloc: Global, method: &[u8]) -> Option<Method>
     match Method::from_bytes(alloc, method) {
         Ok(method) => Some(method),
         Err(MethodError::OutOfMemory) => None,
-        Err(MethodError::Invalid) => unreachable!(),
+        Err(MethodError::Invalid) => unreachable!("a method is a token"),
     }
 }
 

@@ -16,7 +16,7 @@ pub fn docs(alloc: Global) -> Result<IndexName, NoMemory>
     let text = Text::of(String::from_str(alloc, "docs")?);
     match IndexName::make(text) {
         Ok(name) => Ok(name),
-        Err(_) => unreachable!(),
+        Err(_) => unreachable!("the text is the name of an index"),
     }
 }
 

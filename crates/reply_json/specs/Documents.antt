@@ -3,6 +3,7 @@ use Rattle.std.specs.Prelude.{ℕ, ◌-◌, ◌==◌, if◌then◌else◌, List,
 use Rattle.json.specs.Print.{quoted}
 use Rattle.list_machine.specs.declared.event.Wrote.{Wrote}
 use Rattle.list_machine.specs.declared.event.Wrote.TheVariants.{Created, Updated, Deleted, NotFound}
+use Rattle.ctx_ids.specs.declared.id.Kind.TheVariants.{Pit}
 use Rattle.reply_json.specs.Ids.{id_text}
 use Rattle.reply_json.specs.Pieces.{joined}
 
@@ -36,7 +37,7 @@ refreshed_text shards =
 
 unfoldable pub opened_text : ℕ → List ℕ
 opened_text number =
-    joined (codes "{\"id\":\"" ∷ id_text number ∷ codes "\"}" ∷ [])
+    joined (codes "{\"id\":\"" ∷ id_text Pit number ∷ codes "\"}" ∷ [])
 
 -- the status code of a closing that freed so many shards
 abbrev pub closed_status : ℕ → ℕ

@@ -7,6 +7,9 @@ use Rattle.es_types.specs.declared.row.Value.TheVariants.{Key, Long, Missing}
 use Rattle.list_machine.specs.declared.page.request.Answer.{Answer}
 use Rattle.list_machine.specs.declared.page.request.Counts.{Counts}
 use Rattle.list_machine.specs.declared.page.request.Hit.{Hit}
+use Rattle.ctx_ids.specs.declared.id.Kind.TheVariants as kind
+use Rattle.reply_json.specs.declared.found.Lead.{Lead}
+use Rattle.reply_json.specs.declared.found.Lead.TheVariants.{Nothing, Pit}
 use Rattle.reply_json.specs.Ids.{id_text}
 use Rattle.reply_json.specs.Pieces.{comma_if, joined}
 
@@ -47,11 +50,15 @@ before_hits answer =
     codes ",\"hits\":{\"total\":{\"value\":" ∷ decimal answer.total ∷
     codes ",\"relation\":\"eq\"},\"max_score\":null,\"hits\":[" ∷ [])
 
--- the point in time that was searched, if one was
-abbrev pub pit_text : Option ℕ → List ℕ
-pit_text None = []
-pit_text (Some number) = joined (codes "\"pit_id\":\"" ∷ id_text number ∷ codes "\"," ∷ [])
+-- what leads the body of an answer to a search, by the point in time that was searched, if one was
+abbrev pub lead_of : Option ℕ → Lead
+lead_of None = Nothing
+lead_of (Some number) = Pit number
 
-unfoldable pub found_text : Option ℕ → Answer → List ℕ
-found_text pit answer =
-    joined (codes "{" ∷ pit_text pit ∷ before_hits answer ∷ hits_text false answer.hits ∷ codes "]}}" ∷ [])
+abbrev pub lead_text : Lead → List ℕ
+lead_text Nothing = []
+lead_text (Pit number) = joined (codes "\"pit_id\":\"" ∷ id_text kind.Pit number ∷ codes "\"," ∷ [])
+
+unfoldable pub found_text : Lead → Answer → List ℕ
+found_text lead answer =
+    joined (codes "{" ∷ lead_text lead ∷ before_hits answer ∷ hits_text false answer.hits ∷ codes "]}}" ∷ [])

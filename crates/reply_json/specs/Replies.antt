@@ -10,7 +10,7 @@ use Rattle.reply_json.specs.Bulk.{bulk_text}
 use Rattle.reply_json.specs.Documents.{closed_text, created_text, opened_text, refreshed_text, wrote_text}
 use Rattle.reply_json.specs.Faults.{fault_status, fault_text}
 use Rattle.reply_json.specs.Frame.{frame}
-use Rattle.reply_json.specs.Hits.{found_text}
+use Rattle.reply_json.specs.Hits.{found_text, lead_of}
 
 -- the body of a reply that its route gives a text
 abbrev pub reply_text : RouteName → Reply → List ℕ
@@ -20,7 +20,7 @@ reply_text (Remove index id) (Wrote result seq) = wrote_text index id result seq
 reply_text Refresh (Sealed numbers) = refreshed_text (length numbers)
 reply_text OpenPit (Opened number) = opened_text number
 reply_text ClosePit (Closed freed) = closed_text freed
-reply_text (Search pit) (Found answer) = found_text pit answer
+reply_text (Search pit) (Found answer) = found_text (lead_of pit) answer
 reply_text route reply = []
 
 -- the bytes of a response, which may be the last of its connection

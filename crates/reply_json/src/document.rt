@@ -5,6 +5,7 @@ ghost use Rattle.reply_json.specs.Pieces.{joined};
 
 use crate::ids::id_text;
 use crate::pieces::quoted;
+use ctx_ids::Kind;
 use es_types::{DocId, IndexName, NoMemory};
 use list_machine::Wrote;
 use std::alloc::Global;
@@ -114,7 +115,7 @@ fn pit_text(alloc: Global, id: &str) -> Result<String, NoMemory>
 pub fn opened_text(alloc: Global, number: u64) -> Result<String, NoMemory>
     ensures { IfOk result (λ s. string_bytes s ≡ opened_text number) }
 {
-    let id = id_text(alloc, number)?;
+    let id = id_text(alloc, Kind::Pit, number)?;
     pit_text(alloc, id.as_str())
 }
 

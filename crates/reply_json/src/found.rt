@@ -1,13 +1,31 @@
 //! The body of a search's response.
 ghost use Rattle.std.specs.Prelude.{◌≡◌, ◌∷◌, ◌++◌, [], IfOk, OnOk, codes, decimal, false, string_bytes};
-ghost use Rattle.reply_json.specs.Hits.{before_hits, counts_text, found_text, hit_text, hits_text, phases_text, pit_text, sort_text, value_text, values_text};
+ghost use Rattle.reply_json.specs.Hits.{before_hits, counts_text, found_text, hit_text, hits_text, lead_of, lead_text, phases_text, sort_text, value_text, values_text};
 ghost use Rattle.reply_json.specs.Pieces.{comma_if, joined};
 
 use crate::ids::id_text;
 use crate::pieces::{comma_if, quoted};
+use ctx_ids::Kind;
 use es_types::{NoMemory, Value};
 use list_machine::{Answer, Counts, Hit};
 use std::alloc::Global;
+
+/// What leads the body of an answer: nothing, or the point in time of that number.
+#[derive(Clone, Copy)]
+pub enum Lead {
+    Nothing,
+    Pit(u64),
+}
+
+/// What leads the body of an answer to a search, by the point in time that was searched, if one was.
+pub fn lead_of(pit: Option<u64>) -> Lead
+    ensures { result ≡ lead_of pit }
+{
+    match pit {
+        None => Lead::Nothing,
+        Some(number) => Lead::Pit(number),
+    }
+}
 
 fn value_text(alloc: Global, value: &Value) -> Result<String, NoMemory>
     ensures { IfOk result (λ s. string_bytes s ≡ value_text value.now) }
@@ -146,33 +164,32 @@ fn pit_named(alloc: Global, id: &str) -> Result<String, NoMemory>
     format!(in alloc; "\"pit_id\":\"{id}\",")
 }
 
-// The point in time that was searched, if one was.
-fn pit_text(alloc: Global, pit: Option<u64>) -> Result<String, NoMemory>
-    ensures { IfOk result (λ s. string_bytes s ≡ pit_text pit) }
+fn lead_text(alloc: Global, lead: Lead) -> Result<String, NoMemory>
+    ensures { IfOk result (λ s. string_bytes s ≡ lead_text lead) }
 {
-    match pit {
-        None => Ok(String::new(alloc)),
-        Some(number) => {
-            let id = id_text(alloc, number)?;
+    match lead {
+        Lead::Nothing => Ok(String::new(alloc)),
+        Lead::Pit(number) => {
+            let id = id_text(alloc, Kind::Pit, number)?;
             pit_named(alloc, id.as_str())
         }
     }
 }
 
-fn found_head(alloc: Global, pit: &str, before: &str) -> Result<String, NoMemory>
-    ensures { IfOk result (λ s. string_bytes s ≡ joined (codes "{" ∷ pit.now ∷ before.now ∷ [])) }
+fn found_head(alloc: Global, lead: &str, before: &str) -> Result<String, NoMemory>
+    ensures { IfOk result (λ s. string_bytes s ≡ joined (codes "{" ∷ lead.now ∷ before.now ∷ [])) }
 {
-    format!(in alloc; "{{{pit}{before}")
+    format!(in alloc; "{{{lead}{before}")
 }
 
-/// The body of an answer to a search of an index, or of the point in time of that number.
+/// The body of an answer to a search.
 #[tactic(auto, unfolding(crate::specs::Hits::found_text))]
-pub fn found_text(alloc: Global, pit: Option<u64>, answer: &Answer) -> Result<Vec<u8>, NoMemory>
-    ensures { IfOk result (λ body. body.items ≡ found_text pit answer.now) }
+pub fn found_text(alloc: Global, lead: Lead, answer: &Answer) -> Result<Vec<u8>, NoMemory>
+    ensures { IfOk result (λ body. body.items ≡ found_text lead answer.now) }
 {
-    let pit = pit_text(alloc, pit)?;
+    let lead = lead_text(alloc, lead)?;
     let before = before_hits(alloc, answer)?;
-    let mut body = found_head(alloc, pit.as_str(), before.as_str())?.into_bytes();
+    let mut body = found_head(alloc, lead.as_str(), before.as_str())?.into_bytes();
     push_hits(&mut body, alloc, answer.hits.as_slice())?;
     body.extend_from_slice(b"]}}")?;
     Ok(body)

@@ -6,13 +6,10 @@ use ctx_ids::{ContextId, Kind};
 use es_types::{NoMemory, Text};
 use std::alloc::Global;
 
-/// The text of a point in time's id, from its number.
-pub fn id_text(alloc: Global, number: u64) -> Result<Text, NoMemory>
-    ensures { IfOk result (λ text. text ≡ id_text number) }
+/// The text of an id of that kind, from its number.
+pub fn id_text(alloc: Global, kind: Kind, number: u64) -> Result<Text, NoMemory>
+    ensures { IfOk result (λ text. text ≡ id_text kind number) }
 {
-    let id = ContextId {
-        kind: Kind::Pit,
-        number,
-    };
+    let id = ContextId { kind, number };
     id.to_text(alloc)
 }

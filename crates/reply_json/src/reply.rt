@@ -5,7 +5,7 @@ ghost use Rattle.reply_json.specs.Replies.{reply_text, text};
 use crate::bulk::bulk_text;
 use crate::document::{closed_text, created_text, opened_text, refreshed_text, wrote_text};
 use crate::fault::RestFault;
-use crate::found::found_text;
+use crate::found::{found_text, lead_of};
 use crate::frame::frame;
 use crate::refused::{fault_status, fault_text};
 use crate::response::{Response, RouteName};
@@ -36,7 +36,7 @@ fn reply_text(alloc: Global, route: &RouteName, reply: &Reply) -> Result<Vec<u8>
         (RouteName::ClosePit, Reply::Closed { freed }) => {
             Ok(closed_text(alloc, *freed)?.into_bytes())
         }
-        (RouteName::Search { pit }, Reply::Found(answer)) => found_text(alloc, *pit, answer),
+        (RouteName::Search { pit }, Reply::Found(answer)) => found_text(alloc, lead_of(*pit), answer),
         _ => Ok(Vec::new(alloc)),
     }
 }

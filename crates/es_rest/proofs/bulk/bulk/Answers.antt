@@ -1,8 +1,9 @@
 -- The Writes of a bulk, and its refreshes.
-use Rattle.std.proofs.Common.{refl, ap, subst, ◌∙◌, ℕ, List, Option, Some, None}
+use Rattle.std.proofs.Common.{refl, sym, ap, subst, ◌∙◌, ℕ, List, Option, Some, None}
 use Rattle.std.proofs.lemmas.Result.{err_from_is_err_and}
 use Rattle.list_machine.specs.declared.event.Limits.{Limits}
 use Rattle.reply_json.specs.declared.fault.RestFault.{RestFault}
+use Rattle.reply_json.specs.declared.response.BulkLine.{BulkLine}
 use Rattle.reply_json.specs.declared.response.Response.TheVariants as response
 use Rattle.es_route.specs.Items.{items_of}
 use Rattle.es_rest.specs.Scripts.{CutShort, RanScript, refreshes}
@@ -49,4 +50,4 @@ returns-clause-talk g c =
     let ran = by_names c.in_ok-written.ensures.limits c.in_ok-written.ensures.seat (λ (k : Limits) (i : ℕ). RanScript k i c.args.moment (refreshes c.names_if.result.now) mid new None)
     (subst (λ (f : Option RestFault). RanScript (s.limits c.write_items.new.service) (s.seat c.write_items.new.service) c.args.moment (refreshes c.names_if.result.now) mid new f) c.in-None.is c.in_ok-fault.ensures.talk) in
     bulk_done (s.limits c.args.service.now) (s.seat c.args.service.now) c.args.moment c.args.index c.args.body c.args.refresh c.requires.0 c.requires.1 (s.front c.args.service.now) mid new
-    c.in_ok-written.written c.names_if.result.now None _ (c.in_ok-written.ensures.items c.requires.0 are) c.names_if.ensures ran (ap response.Bulk c.of.ensures)
+    c.in_ok-written.written c.names_if.result.now None _ (c.in_ok-written.ensures.items c.requires.0 are) c.names_if.ensures ran (ap (λ (l : List BulkLine). Some (response.Bulk l)) (sym c.of.ensures))

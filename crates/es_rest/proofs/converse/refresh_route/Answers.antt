@@ -4,6 +4,7 @@ use Rattle.std.proofs.lemmas.Result.{err_from_is_err_and}
 use Rattle.reply_json.specs.declared.fault.RestFault.{RestFault}
 use Rattle.reply_json.specs.declared.response.RouteName.TheVariants as route
 use Rattle.es_rest.specs.declared.refresh.Refreshed.{Refreshed}
+use Rattle.es_rest.specs.declared.refusal.Named.TheVariants as named
 use Rattle.es_rest.specs.Led.{RefreshWent}
 use Rattle.es_rest.specs.Scripts.{refusal}
 use Rattle.es_rest.specs.Talk.{settled}
@@ -36,4 +37,4 @@ returns-in-Ended-clause-talk g c =
     let said = c.in-Ended.said in
     let went = subst (λ (f : Refreshed). RefreshWent limits seat c.args.moment c.args.index.now old new f) c.in-Ended.is c.in_ok-numbers.ensures.talk in
     refreshed_ended limits seat c.args.moment c.args.index.now old new said c.settle-in-Ended.result went
-    (c.settle-in-Ended.ensures ∙ ap (λ (r : Option RestFault). settled r said route.Refresh) (c.refusal-refused.ensures ∙ ap (λ (n : List ℕ). refusal n said) (c.in_ok-name.ensures ∙ c.text.ensures.value)))
+    (c.settle-in-Ended.ensures ∙ ap (λ (r : Option RestFault). settled r said route.Refresh) (c.refusal-refused.ensures ∙ ap (λ (n : List ℕ). refusal (named.Index n) said) (c.in_ok-name.ensures ∙ c.text.ensures.value)))

@@ -43,7 +43,7 @@ returns-then-is_refused-clause-talk g c =
     let was = subst (λ (e : Event). Asked limits seat 4 now new (asked seat c.args.moment e) c.in_ok-said.said) (same_event upto c.in_ok-copy.ensures c.loop-upto.invariant.shard)
     (asked_as c.loop-upto.invariant.limits c.loop-upto.invariant.seat c.args.moment (Publish c.in_ok-copy.field-0 c.loop-upto.shard upto) now new c.in_ok-said.said c.in_ok-said.ensures.asked) in
     told_refused limits seat c.args.moment index numbers (s.front c.args.service.now) now new count upto c.in_ok-said.said c.loop-upto.invariant.told (at_place numbers count c.loop-upto-test.true) was
-    (sym (c.is_refused.ensures []) ∙ c.if-is_refused.true)
+    (sym (c.is_refused.ensures (named.Context [])) ∙ c.if-is_refused.true)
 
 pub loop-upto-preserved : goal.loop-upto-preserved
 loop-upto-preserved g c =
@@ -60,7 +60,7 @@ loop-upto-preserved g c =
     (asked_as c.loop-upto.invariant.limits c.loop-upto.invariant.seat c.args.moment (Publish c.in_ok-copy.field-0 c.loop-upto.shard upto) now new c.in_ok-said.said c.in_ok-said.ensures.asked) in
     record {
       told = told_more limits seat c.args.moment index numbers (s.front c.args.service.now) now new count upto c.in_ok-said.said c.loop-upto.invariant.told (at_place numbers count c.loop-upto-test.true) was
-          (sym (c.is_refused.ensures []) ∙ c.if-is_refused.false);
+          (sym (c.is_refused.ensures (named.Context [])) ∙ c.if-is_refused.false);
       shard = ap (λ (n : ℕ). n + 1) c.loop-upto.invariant.shard;
       were_sealed = sealed_later limits seat now new (asked seat c.args.moment (Publish index count upto)) c.in_ok-said.said index numbers was c.loop-upto.invariant.were_sealed;
       seat = c.in_ok-said.ensures.seat ∙ c.loop-upto.invariant.seat;

@@ -3,6 +3,7 @@ use Rattle.std.proofs.Common.{◌≡◌, ◌∙◌, ap, subst, List, ℕ, arith}
 use Rattle.std.proofs.lemmas.Result.{err_from_is_err_and}
 use Rattle.list_machine.specs.declared.event.Limits.{Limits}
 use Rattle.es_rest.specs.declared.refresh.Refreshed.{Refreshed}
+use Rattle.es_rest.specs.declared.refusal.Named.TheVariants as named
 use Rattle.es_rest.specs.Led.{EndedBy, RefreshWent, WasRefreshed}
 use Rattle.es_rest.specs.Scripts.{Strayed, refresh, refusal}
 use Rattle.es_rest.proofs.Led.{by_names}
@@ -34,7 +35,7 @@ returns-in-Ended-clause-talk g c =
     let index = c.index-item.result in
     let went = subst (λ (f : Refreshed). RefreshWent (s.limits c.loop-index.service) (s.seat c.loop-index.service) c.args.moment index mid new f) c.in-Ended.is c.in_ok-said.ensures.talk in
     let ended = by_names c.loop-index.invariant.limits c.loop-index.invariant.seat (λ (k : Limits) (i : ℕ). EndedBy k i c.args.moment index mid new c.in-Ended.said) went in
-    let is : c.refusal.result ≡ refusal index c.in-Ended.said = c.refusal.ensures ∙ ap (λ (n : List ℕ). refusal n c.in-Ended.said) (c.in_ok-name.ensures ∙ c.text.ensures.value) in
+    let is : c.refusal.result ≡ refusal (named.Index index) c.in-Ended.said = c.refusal.ensures ∙ ap (λ (n : List ℕ). refusal (named.Index n) c.in-Ended.said) (c.in_ok-name.ensures ∙ c.text.ensures.value) in
     rw is (cleared_ended (s.limits c.args.service.now) (s.seat c.args.service.now) c.args.moment c.args.indexes.now (s.front c.args.service.now) mid new c.loop-index.index-index index c.in-Ended.said c.loop-index.invariant.cleared (at_item c.args.indexes.now c.loop-index.index-index index c.loop-index-test.true c.index-item.is) ended)
 
 pub loop-index-preserved : goal.loop-index-preserved

@@ -1,6 +1,6 @@
 //! The calls of `ctx_ids`.
 
-use crate::values::copies;
+use crate::es_types_calls::copies;
 use ctx_ids::{ContextId, Kind, no_two_ids_have_one_text};
 use std::alloc::Global;
 use std::test::Fail;

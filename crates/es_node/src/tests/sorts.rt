@@ -1,5 +1,5 @@
 //! Sessions in the order of sorts: worked ones, and all pages of an index by a table of sorts.
-use crate::session::{
+use crate::tests::session::{
     SIX_EQUAL, Session, plays, push_request, push_response, read_session, replays,
 };
 use std::alloc::Global;

@@ -1,6 +1,6 @@
 //! Sessions as texts: requests, each with the response that it has to have.
 use crate::run::Status;
-use crate::tests::{NO_FAULTS, replayed};
+use crate::tests::endings::{NO_FAULTS, replayed};
 use std::alloc::Global;
 use std::process::Abort;
 use std::test::Fail;

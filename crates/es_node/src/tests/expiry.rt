@@ -1,5 +1,5 @@
 //! Sessions of points in time that expire, are kept longer, and are closed.
-use crate::session::{SIX_EQUAL, plays};
+use crate::tests::session::{SIX_EQUAL, plays};
 use std::test::Fail;
 
 const EXPIRES: &str = r#"
@@ -18,7 +18,7 @@ POST /_search {"pit":{"id":"UAAAAAAAAAAB"},"size":0}
 "#;
 
 #[test]
-fn expires_behind_its_last_moment(rt: HostRuntime) -> Result<(), Fail> {
+fn expires_after_its_last_moment(rt: HostRuntime) -> Result<(), Fail> {
     plays(&rt, rt.alloc(), EXPIRES)
 }
 

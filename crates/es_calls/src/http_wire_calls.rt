@@ -1,5 +1,5 @@
 //! The calls of `http_wire`.
-use crate::values::bytes;
+use crate::es_types_calls::bytes;
 use es_outside::{Link, MemSink, MemSource, Pair};
 use es_types::{Bytes, Items};
 use http_wire::{Buf, Request, WireEnd, next_request, one_cut, write_all};

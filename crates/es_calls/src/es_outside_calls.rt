@@ -1,5 +1,5 @@
 //! The calls of `es_outside`.
-use crate::values::bytes;
+use crate::es_types_calls::bytes;
 use es_outside::{Clock, Failed, Link, MemSink, MemSource, Pair, ReplayClock, Sink, Source};
 use es_types::{Items, Moment};
 use std::alloc::Global;

@@ -1,5 +1,5 @@
 //! Sessions with slices, which share the documents of a point in time out, and with the phases of a search.
-use crate::session::{SIX_EQUAL, plays};
+use crate::tests::session::{SIX_EQUAL, plays};
 use std::test::Fail;
 
 // Three slices of an index of two shards: one shard has two of them, the other is the third.

@@ -1,5 +1,5 @@
 //! The calls of `es_types` on mappings, documents and shards.
-use crate::values::{bytes, copies, text};
+use crate::es_types_calls::{bytes, copies, text};
 use es_types::{
     Doc, DocCause, DocFault, DocId, DocValue, Fail as Failure, Field, FieldKind, FieldName, Items,
     Mapping, Member, Value, fit_doc, shard_of,

@@ -1,5 +1,5 @@
 //! Sessions with queries and searches of an index and of a view, and searches that are refused.
-use crate::session::plays;
+use crate::tests::session::plays;
 use std::test::Fail;
 
 const QUERIES: &str = r#"

@@ -1,5 +1,5 @@
 //! The calls of `es_types`.
-use crate::fields::document;
+use crate::es_types_fields::document;
 use es_types::{
     Bytes, Copied, DocId, DocValue, FieldName, IndexName, Items, KeepAlive, Moment, NoMemory, Op,
     Row, Text, Value,

@@ -1,5 +1,5 @@
 //! Sessions with documents, refreshes, points in time and bulks.
-use crate::session::plays;
+use crate::tests::session::plays;
 use std::test::Fail;
 
 const PAGES: &str = r#"
