@@ -1,5 +1,5 @@
 -- The items of a bulk, one after the other.
-use Rattle.std.proofs.Common.{cond, MatchResult, ◌≡◌, refl, sym, ap, subst, ◌∙◌, inl, inr, ⊎_elim, ℕ, List, [], ◌∷◌, ◌++◌, Result, Ok, Err, append_assoc}
+use Rattle.std.proofs.Common.{Option, cond, MatchResult, ◌≡◌, refl, sym, ap, subst, ◌∙◌, inl, inr, ⊎_elim, ℕ, List, [], ◌∷◌, ◌++◌, Result, Ok, Err, append_assoc}
 use Rattle.std.specs.Prelude.{OnOk, Bool, true, false, ◌||◌, bytes_eq}
 use Rattle.std.proofs.lemmas.List.{append-nil}
 use Rattle.list_machine.specs.declared.event.Event.{Event}

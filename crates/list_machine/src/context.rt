@@ -2,7 +2,7 @@
 ghost use Rattle.std.specs.Prelude.{◌≡◌, IfOk, map};
 ghost use Rattle.es_query.specs.Limits.{bounds_of};
 
-use crate::page::bounds::bounds_in;
+use crate::page::bounds::{bounds_of_each, rows_of_context};
 use es_types::{Bounds, IndexName, Mapping, Moment, NoMemory, Row};
 use std::alloc::Global;
 
@@ -35,7 +35,9 @@ impl ContextStore {
     ) -> Result<ContextStore, NoMemory>
         ensures { IfOk result (λ context. context_seen context ≡ pit number (view_over index mapping (map (λ rows. rows.items) shards.items)) expiry) }
     {
-        let bounds = bounds_in(alloc, &mapping, &shards)?;
+        let rows = rows_of_context(alloc, &shards)?;
+        let bounds = bounds_of_each(alloc, &mapping, &rows)?;
+        drop(rows);
         Ok(ContextStore {
             number,
             index,

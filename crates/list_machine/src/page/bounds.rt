@@ -34,15 +34,3 @@ pub fn bounds_of_each(
     }
     Ok(bounds)
 }
-
-/// The same of rows in lists.
-pub fn bounds_in(
-    alloc: Global,
-    mapping: &Mapping,
-    shards: &[Vec<Row>],
-) -> Result<Vec<Bounds>, NoMemory>
-    ensures { IfOk result (λ bounds. bounds.items ≡ bounds_of_each mapping.now (map (λ shard. shard.items) shards.now)) }
-{
-    let rows = rows_of_context(alloc, shards)?;
-    bounds_of_each(alloc, mapping, &rows)
-}

@@ -25,7 +25,10 @@ impl Copied for SearchRequest {
     fn copy(&self, alloc: Global) -> Result<SearchRequest, NoMemory> {
         let query = self.query.copy(alloc)?;
         let sort = self.sort.copy(alloc)?;
-        let after = copy_after(alloc, &self.after)?;
+        let after = match &self.after {
+            Some(keys) => Some(keys.copy(alloc)?),
+            None => None,
+        };
         Ok(SearchRequest {
             query,
             sort,
@@ -35,15 +38,6 @@ impl Copied for SearchRequest {
             slice: self.slice,
             batch: self.batch,
         })
-    }
-}
-
-fn copy_after(alloc: Global, after: &Option<Keys>) -> Result<Option<Keys>, NoMemory>
-    ensures { IfOk result (λ it. it ≡ after.now) }
-{
-    match after {
-        Some(keys) => Ok(Some(keys.copy(alloc)?)),
-        None => Ok(None),
     }
 }
 

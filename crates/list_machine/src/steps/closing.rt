@@ -1,6 +1,5 @@
 //! Closings of points in time.
 ghost use Rattle.std.specs.Prelude.{◌≡◌, ◌==◌, ◌≤◌, All, length, map};
-ghost use Rattle.std.specs.List.{list_any};
 ghost use Rattle.list_machine.specs.declared.event.Event.TheVariants.{Close};
 ghost use Rattle.list_machine.specs.State.{Context, State};
 ghost use Rattle.list_machine.specs.Step.{close_one, freed, happen, is_closing, is_named};
@@ -61,13 +60,6 @@ fn is_closing(context: &ContextStore, moment: Moment, which: &Which) -> bool
 fn is_named(which: &Which, context: &ContextStore) -> bool
     ensures { result ≡ is_named which.now (context_seen context.now) }
 {
-    match which {
-        Which::Pits(numbers) => has_number(numbers.as_slice(), context.number),
-    }
-}
-
-fn has_number(numbers: &[u64], number: u64) -> bool
-    ensures { result ≡ list_any (λ one. one == number) numbers.now }
-{
-    numbers.iter().any(|one| *one == number)
+    let Which::Pits(numbers) = which;
+    numbers.as_slice().contains(&context.number)
 }

@@ -70,25 +70,17 @@ pub fn make_index(
 ) -> Result<IndexStore, NoMemory>
     ensures { IfOk result (λ index. index_seen index ≡ record { name = name.now; mapping = mapping.now; shards = replicate shards empty_shard }) }
 {
-    let name = name.copy(alloc)?;
-    let mapping = mapping.copy(alloc)?;
-    Ok(IndexStore {
-        name,
-        mapping,
-        shards: empty_shards(alloc, shards)?,
-    })
-}
-
-fn empty_shards(alloc: Global, count: u32) -> Result<Vec<ShardStore>, NoMemory>
-    ensures { IfOk result (λ shards. shards_seen shards.items ≡ replicate count empty_shard) }
-{
-    let mut shards = Vec::new(alloc);
-    for _made in 0..count {
-        shards.push(ShardStore {
+    let mut made = Vec::new(alloc);
+    for _shard in 0..shards {
+        made.push(ShardStore {
             base: 0,
             rows: Vec::new(alloc),
             pending: Vec::new(alloc),
         })?;
     }
-    Ok(shards)
+    Ok(IndexStore {
+        name: name.copy(alloc)?,
+        mapping: mapping.copy(alloc)?,
+        shards: made,
+    })
 }

@@ -42,7 +42,13 @@ pub fn open_pit(
 fn live_contexts(contexts: &[ContextStore], moment: Moment) -> u64
     ensures { result ≡ count_by (is_live moment) (contexts_seen contexts.now) }
 {
-    contexts.iter().filter(|c| c.is_live(moment)).count() as u64
+    let mut count = 0;
+    for context in contexts {
+        if context.is_live(moment) {
+            count += 1;
+        }
+    }
+    count
 }
 
 fn make_context(

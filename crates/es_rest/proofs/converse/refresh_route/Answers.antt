@@ -37,4 +37,4 @@ returns-in-Ended-clause-talk g c =
     let said = c.in-Ended.said in
     let went = subst (λ (f : Refreshed). RefreshWent limits seat c.args.moment c.args.index.now old new f) c.in-Ended.is c.in_ok-numbers.ensures.talk in
     refreshed_ended limits seat c.args.moment c.args.index.now old new said c.settle-in-Ended.result went
-    (c.settle-in-Ended.ensures ∙ ap (λ (r : Option RestFault). settled r said route.Refresh) (c.refusal-refused.ensures ∙ ap (λ (n : List ℕ). refusal (named.Index n) said) (c.in_ok-name.ensures ∙ c.text.ensures.value)))
+    (c.settle-in-Ended.ensures ∙ ap (λ (r : Option RestFault). settled r said route.Refresh) (c.refusal-refused.ensures ∙ ap (λ (n : List ℕ). refusal (named.Index n) said) (c.in_ok-copy.ensures ∙ c.text.ensures.value)))

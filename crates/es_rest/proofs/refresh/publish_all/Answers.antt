@@ -5,6 +5,7 @@ use Rattle.list_machine.specs.declared.event.Event.{Event}
 use Rattle.list_machine.specs.declared.event.Event.TheVariants.{Publish}
 use Rattle.list_machine.specs.declared.event.Limits.{Limits}
 use Rattle.list_machine.specs.Serving.{Asked, HasSealed, MayHaveAsked, asked}
+use Rattle.es_rest.specs.declared.refusal.Named.TheVariants as named
 use Rattle.es_rest.proofs.Refreshes.{told_all, told_cut, told_more, told_refused, told_tried}
 use Rattle.es_rest.proofs.Talks.{asked_as, at_place, may_have_as, sealed_later}
 use Rattle.es_rest.proofs.refresh.publish_all.Goals as goal

@@ -11,8 +11,8 @@ use Rattle.es_rest.proofs.Refreshes.{cleared_all, cleared_cut, cleared_ended, cl
 use Rattle.es_rest.proofs.Scripts.{at_item}
 use Rattle.es_rest.proofs.refresh.refresh_all.Goals as goal
 
-pub returns-in_err-name-clause-talk : goal.returns-in_err-name-clause-talk
-returns-in_err-name-clause-talk g c =
+pub returns-in_err-copy-clause-talk : goal.returns-in_err-copy-clause-talk
+returns-in_err-copy-clause-talk g c =
     let s = g.V.Service in
     let p = err_from_is_err_and c.from_residual.result c.from_residual.ensures.1 in
     rw p.1 (cleared_none_more (s.limits c.args.service.now) (s.seat c.args.service.now) c.args.moment c.args.indexes.now (s.front c.args.service.now) (s.front c.loop-index.service) c.loop-index.index-index c.loop-index.invariant.cleared)
@@ -35,7 +35,7 @@ returns-in-Ended-clause-talk g c =
     let index = c.index-item.result in
     let went = subst (λ (f : Refreshed). RefreshWent (s.limits c.loop-index.service) (s.seat c.loop-index.service) c.args.moment index mid new f) c.in-Ended.is c.in_ok-said.ensures.talk in
     let ended = by_names c.loop-index.invariant.limits c.loop-index.invariant.seat (λ (k : Limits) (i : ℕ). EndedBy k i c.args.moment index mid new c.in-Ended.said) went in
-    let is : c.refusal.result ≡ refusal (named.Index index) c.in-Ended.said = c.refusal.ensures ∙ ap (λ (n : List ℕ). refusal (named.Index n) c.in-Ended.said) (c.in_ok-name.ensures ∙ c.text.ensures.value) in
+    let is : c.refusal.result ≡ refusal (named.Index index) c.in-Ended.said = c.refusal.ensures ∙ ap (λ (n : List ℕ). refusal (named.Index n) c.in-Ended.said) (c.in_ok-copy.ensures ∙ c.text.ensures.value) in
     rw is (cleared_ended (s.limits c.args.service.now) (s.seat c.args.service.now) c.args.moment c.args.indexes.now (s.front c.args.service.now) mid new c.loop-index.index-index index c.in-Ended.said c.loop-index.invariant.cleared (at_item c.args.indexes.now c.loop-index.index-index index c.loop-index-test.true c.index-item.is) ended)
 
 pub loop-index-preserved : goal.loop-index-preserved
