@@ -4,13 +4,14 @@ use Rattle.std.specs.List.{filter, find}
 use Rattle.std.proofs.lemmas.Bool.{cases_Bool}
 use Rattle.std.proofs.lemmas.List.Elements.{All-cons, All-filter, All-head, All-map, All-nil, All-push, All-tail, All-weaker}
 use Rattle.std.proofs.lemmas.Option.{none-some, same_Some}
+use Rattle.es_types.specs.declared.limits.TheConstants.{MOST_ENTRIES}
 use Rattle.context_book.specs.declared.context.Context.{Context}
 use Rattle.context_book.specs.Books.{Book, CanLend, Rises, is_kept, live_one, lives}
 use Rattle.context_book.specs.Calls.{lent_by, touched}
 use Rattle.list_machine.specs.declared.event.Event.{Event}
 use Rattle.list_machine.specs.declared.event.Event.TheVariants.{Close, Create, OpenPit, Publish, Quiet, Seal, Search, Write}
 use Rattle.list_machine.specs.declared.event.Reply.{Reply}
-use Rattle.list_machine.specs.declared.event.Reply.TheVariants.{Opened}
+use Rattle.list_machine.specs.declared.event.Reply.TheVariants.{NoIndex, Opened, Spent, TooMany}
 use Rattle.list_machine.specs.declared.event.Target.TheVariants.{Index as IndexTarget, Pit}
 use Rattle.list_machine.specs.State.{Index}
 use Rattle.list_machine.specs.Views.{View}
@@ -64,7 +65,10 @@ pub lent_opened : (n : ℕ) (view : Option View) (expiry : ℕ) (old new : List 
 lent_opened n view expiry old new (Opened number) is all =
     subst (AllLent n) (sym is.added)
     (All-push (lent n) old (record { number = number; owner = is.owner; expiry = expiry }) all (omega (arith, is.unlent)))
-lent_opened n view expiry old new other is all = subst (AllLent n) (sym is) all
+lent_opened n view expiry old new Spent is all = subst (AllLent n) (sym is) all
+lent_opened n view expiry old new NoIndex is all = subst (AllLent n) (sym is) all
+lent_opened n view expiry old new (TooMany limit) is all = subst (AllLent n) (sym is) all
+lent_opened n view expiry old new other is all = absurd is
 
 -- the one that is kept longer has lent as many
 pub lent_kept : (n number till : ℕ) (contexts : List Context) → AllLent n contexts → AllLent n (map (touched number till) contexts)
@@ -111,8 +115,8 @@ hands_lends (Close which) moment indexes old new turned is =
 hands_lends Quiet moment indexes old new turned is = lends_same old new is.1
 
 -- after a history of so few entries each may lend another
-pub lent_few : (n : ℕ) (contexts : List Context) → n < 9007199254740992 → AllLent n contexts → AllCanLend contexts
-lent_few n contexts short all = All-weaker (lent n) (λ (context : Context). context.owner.lent < 9007199254740992) (λ context l. omega (arith, l, short)) contexts all
+pub lent_few : (n : ℕ) (contexts : List Context) → n < MOST_ENTRIES → AllLent n contexts → AllCanLend contexts
+lent_few n contexts short all = All-weaker (lent n) (λ (context : Context). context.owner.lent < MOST_ENTRIES) (λ context l. omega (arith, l, short)) contexts all
 
 -- and an entry later they have lent at most as many as there are entries
 pub lent_next : (n next : ℕ) (old new : List Context) → next ≡ n + 1 → Lends old new → AllLent n old → AllLent next new
@@ -172,10 +176,10 @@ only_one number moment (context ∷ contexts) one rises found =
 
 -- one that hasn't lent as many as it may lends one more
 few_lent : (number moment : ℕ) (contexts : List Context) (one : Context) → Rises contexts → live_one number moment contexts ≡ Some one
-    → one.owner.lent < 9007199254740992 → AllLent 9007199254740992 contexts → AllLent 9007199254740992 (map (lent_by number) contexts)
+    → one.owner.lent < MOST_ENTRIES → AllLent MOST_ENTRIES contexts → AllLent MOST_ENTRIES (map (lent_by number) contexts)
 few_lent number moment contexts one rises found room all =
     let only = only_one number moment contexts one rises found in
-    let most : ℕ = 9007199254740992 in
+    let most : ℕ = MOST_ENTRIES in
     All-map (lent most) (lent_by number) contexts
     (λ k d within.
     let it : Context = get_or contexts k d in
@@ -189,40 +193,40 @@ few_lent number moment contexts one rises found room all =
     (cases_Bool (eqb it.number number)))
 
 few_room : (number moment : ℕ) (contexts : List Context) (o : Option Context) → Rises contexts → live_one number moment contexts ≡ o
-    → MatchOption o ⊥ (λ (context : Context). context.owner.lent < 9007199254740992) → AllLent 9007199254740992 contexts → AllLent 9007199254740992 (map (lent_by number) contexts)
+    → MatchOption o ⊥ (λ (context : Context). context.owner.lent < MOST_ENTRIES) → AllLent MOST_ENTRIES contexts → AllLent MOST_ENTRIES (map (lent_by number) contexts)
 few_room number moment contexts None rises is room all = absurd room
 few_room number moment contexts (Some one) rises is room all = few_lent number moment contexts one rises is room all
 
 -- whatever a book's lending answers, none has lent more than one may
 pub few_book : (number moment : ℕ) (old new : Book) {A E : Type 0} (r : Result A E) → Rises old.contexts
-    → MatchOption (live_one number moment old.contexts) ⊥ (λ (context : Context). context.owner.lent < 9007199254740992)
+    → MatchOption (live_one number moment old.contexts) ⊥ (λ (context : Context). context.owner.lent < MOST_ENTRIES)
     → OnOk r (new ≡ record old { contexts = map (lent_by number) old.contexts }) → OnErr r (new ≡ old)
-    → AllLent 9007199254740992 old.contexts → AllLent 9007199254740992 new.contexts
+    → AllLent MOST_ENTRIES old.contexts → AllLent MOST_ENTRIES new.contexts
 few_book number moment old new (Ok a) rises room is same all =
-    subst (λ (it : Book). AllLent 9007199254740992 it.contexts) (sym is) (few_room number moment old.contexts (live_one number moment old.contexts) rises refl room all)
-few_book number moment old new (Err e) rises room is same all = subst (λ (it : Book). AllLent 9007199254740992 it.contexts) (sym same) all
+    subst (λ (it : Book). AllLent MOST_ENTRIES it.contexts) (sym is) (few_room number moment old.contexts (live_one number moment old.contexts) rises refl room all)
+few_book number moment old new (Err e) rises room is same all = subst (λ (it : Book). AllLent MOST_ENTRIES it.contexts) (sym same) all
 
 -- ---- who may lend
 
 -- a context that is live may, where that is known of it
-pub can_lend : (o : Option Context) → MatchOption o ⊥ (λ (context : Context). context.owner.lent < 9007199254740992)
-    → IfSome o (λ (context : Context). context.owner.lent < 9007199254740992)
+pub can_lend : (o : Option Context) → MatchOption o ⊥ (λ (context : Context). context.owner.lent < MOST_ENTRIES)
+    → IfSome o (λ (context : Context). context.owner.lent < MOST_ENTRIES)
 can_lend None room = tt
 can_lend (Some context) room = room
 
 pub one_can : (number moment : ℕ) (contexts : List Context) (one : Context) → CanLend number moment contexts → live_one number moment contexts ≡ Some one
-    → one.owner.lent < 9007199254740992
-one_can number moment contexts one can is = subst (λ (o : Option Context). IfSome o (λ (context : Context). context.owner.lent < 9007199254740992)) is can
+    → one.owner.lent < MOST_ENTRIES
+one_can number moment contexts one can is = subst (λ (o : Option Context). IfSome o (λ (context : Context). context.owner.lent < MOST_ENTRIES)) is can
 
 -- where all may, the live one of a number may
-found_can : (p : Context → Bool) (contexts : List Context) → AllCanLend contexts → IfSome (find p contexts) (λ (context : Context). context.owner.lent < 9007199254740992)
+found_can : (p : Context → Bool) (contexts : List Context) → AllCanLend contexts → IfSome (find p contexts) (λ (context : Context). context.owner.lent < MOST_ENTRIES)
 found_can p [] all = tt
 found_can p (context ∷ contexts) all =
-    let P : Context → Type 0 = λ it. it.owner.lent < 9007199254740992 in
+    let P : Context → Type 0 = λ it. it.owner.lent < MOST_ENTRIES in
     elim (p context) as (λ b. IfSome (cond b (Some context) (find p contexts)) P)
     [ true ↦ All-head P context contexts all | false ↦ found_can p contexts (All-tail P context contexts all) ]
 
 pub all_can : (number moment : ℕ) (contexts : List Context) → AllCanLend contexts → CanLend number moment contexts
 all_can number moment contexts all =
     found_can (λ (context : Context). eqb context.number number) (filter (lives moment) contexts)
-    (All-filter (lives moment) (λ (context : Context). context.owner.lent < 9007199254740992) contexts all)
+    (All-filter (lives moment) (λ (context : Context). context.owner.lent < MOST_ENTRIES) contexts all)

@@ -5,6 +5,7 @@ use Rattle.std.specs.Option.{option_map}
 use Rattle.std.proofs.lemmas.Bool.{cases_Bool}
 use Rattle.std.proofs.lemmas.List.Elements.{All-push, All-weaker, filter-append}
 use Rattle.std.proofs.lemmas.List.Sums.{length-filter, sum_by-le}
+use Rattle.es_types.specs.declared.limits.TheConstants.{MOST_ENTRIES}
 use Rattle.list_machine.specs.declared.event.Entry.{Entry}
 use Rattle.list_machine.specs.declared.event.Event.{Event}
 use Rattle.list_machine.specs.declared.event.Event.TheVariants.{Close, OpenPit, Quiet, Search}
@@ -328,14 +329,14 @@ pub record Known : Type 0 where
   pub counted : (limits : Limits) (history : History) → All (λ (entry : Entry). IsBounded entry.event) history → IsCounted (length history) (state_of limits history)
 
 -- the shards of the contexts after a short history can be counted
-few_shards : (n : ℕ) (state : State) → IsCounted n state → n < 9007199254740992 → sum_by (λ (context : Context). length context.view.shards) state.contexts ≤ 18446744073709551615
+few_shards : (n : ℕ) (state : State) → IsCounted n state → n < MOST_ENTRIES → sum_by (λ (context : Context). length context.view.shards) state.contexts ≤ 18446744073709551615
 few_shards n state counted short =
     let all = sum_by-le (λ (context : Context). length context.view.shards) 1024 state.contexts
     (All-weaker (λ (context : Context). IsViewSmall context.view) (λ (context : Context). length context.view.shards ≤ 1024) (λ context is. is.few) state.contexts counted.views) in
     omega (arith, all, counted.many)
 
 -- a state after a short history is small, at any moment
-known_small : Known → (limits : Limits) (history : History) (moment : ℕ) → All (λ (entry : Entry). IsBounded entry.event) history → length history < 9007199254740992
+known_small : Known → (limits : Limits) (history : History) (moment : ℕ) → All (λ (entry : Entry). IsBounded entry.event) history → length history < MOST_ENTRIES
     → HasSmallNumbers (at_moment (state_of limits history) moment)
 known_small known limits history moment bounded short =
     let counted : IsCounted (length history) (state_of limits history) = known.counted limits history bounded in
@@ -370,7 +371,7 @@ pub record IsMoved (old new : Core) (moment : ℕ) : Type 0 where
 -- the step of an entry makes a core stand for the history and the entry
 pub turn_stands : Known → (old stepped new : Core) (event : Event) (moment later : ℕ) (reply : Reply) → later ≡ max old.moment moment
     → Steps old stepped later event reply → Lends old.book.contexts stepped.book.contexts → IsMoved stepped new later → PutsObject event → IsBounded event
-    → (limits : Limits) (history : History) (who : ℕ) → Stands limits old history → length history < 9007199254740992
+    → (limits : Limits) (history : History) (who : ℕ) → Stands limits old history → length history < MOST_ENTRIES
     → Stands limits new (history ++ record { who = who; moment = moment; event = event } ∷ [])
     × (reply ≡ reply_of limits history (record { who = who; moment = moment; event = event }))
 turn_stands known old stepped new event moment later reply is steps lends moved object bounded limits history who stands short =

@@ -7,7 +7,7 @@ use Rattle.reader_gate.specs.Readers.{Owned}
 use Rattle.list_machine.specs.declared.event.Event.{Event}
 use Rattle.list_machine.specs.declared.event.Event.TheVariants.{Close, Create, OpenPit, Publish, Quiet, Seal, Search, Write}
 use Rattle.list_machine.specs.declared.event.Reply.{Reply}
-use Rattle.list_machine.specs.declared.event.Reply.TheVariants.{Missing, Opened, TooMany}
+use Rattle.list_machine.specs.declared.event.Reply.TheVariants.{Done, Wrote, Sealed, Opened, Found, Closed, Spent, NoIndex, Exists, Missing, BadDoc, BadQuery, BadSort, BadAfter, TooMany, ShardFull}
 use Rattle.list_machine.specs.declared.event.Which.{Which}
 use Rattle.list_machine.specs.declared.page.request.SearchRequest.{SearchRequest}
 use Rattle.list_machine.specs.State.{Context, is_live, pit}
@@ -38,10 +38,24 @@ pub record IsAdded (view : Option View) (number expiry : ℕ) (old new : List Ke
   pub unlent : owner.lent ≡ 0
   pub added : new ≡ old ++ record { number = number; owner = owner; expiry = expiry } ∷ []
 
--- what an opening leaves of the contexts: one more where it was opened, and else all as they were
+-- What an opening leaves of the contexts: one more where it was opened, and all as they were where it was refused. It has no other reply.
 abbrev pub LeavesOpened : Option View → ℕ → List Kept → List Kept → Reply → Type 0
 LeavesOpened view expiry old new (Opened number) = IsAdded view number expiry old new
-LeavesOpened view expiry old new other = new ≡ old
+LeavesOpened view expiry old new Spent = new ≡ old
+LeavesOpened view expiry old new NoIndex = new ≡ old
+LeavesOpened view expiry old new (TooMany limit) = new ≡ old
+LeavesOpened view expiry old new Done = ⊥
+LeavesOpened view expiry old new (Wrote result seq) = ⊥
+LeavesOpened view expiry old new (Sealed numbers) = ⊥
+LeavesOpened view expiry old new (Found answer) = ⊥
+LeavesOpened view expiry old new (Closed freed) = ⊥
+LeavesOpened view expiry old new Exists = ⊥
+LeavesOpened view expiry old new Missing = ⊥
+LeavesOpened view expiry old new (BadDoc fault) = ⊥
+LeavesOpened view expiry old new BadQuery = ⊥
+LeavesOpened view expiry old new BadSort = ⊥
+LeavesOpened view expiry old new BadAfter = ⊥
+LeavesOpened view expiry old new ShardFull = ⊥
 
 -- what a search of it answers
 abbrev pub found : SearchRequest → Option Context → Reply

@@ -3,7 +3,7 @@ use Rattle.std.specs.Prelude.{◌≡◌, ℕ, bytes_eq, List, map, All, position
 use Rattle.std.specs.Arc.{arc_value}
 use Rattle.std.specs.BTreeMap.{BTreeMap, get_by_text}
 use Rattle.list_machine.specs.declared.event.Event.{Event}
-use Rattle.list_machine.specs.declared.event.Event.TheVariants.{Create, Write, Seal, Publish}
+use Rattle.list_machine.specs.declared.event.Event.TheVariants.{Create, Write, Seal, Publish, OpenPit, Search, Close, Quiet}
 use Rattle.list_machine.specs.Seen.Stores.{AreNumbered, most_entries}
 use Rattle.list_machine.specs.State.{Index as Seen}
 use Rattle.es_core.specs.declared.index.Index.{Index}
@@ -28,4 +28,7 @@ IsOfIndexes (Create name shards mapping) = Unit {0}
 IsOfIndexes (Write name id change) = Unit {0}
 IsOfIndexes (Seal name) = Unit {0}
 IsOfIndexes (Publish name shard upto) = Unit {0}
-IsOfIndexes other = ⊥
+IsOfIndexes (OpenPit index keep) = ⊥
+IsOfIndexes (Search target request) = ⊥
+IsOfIndexes (Close which) = ⊥
+IsOfIndexes Quiet = ⊥

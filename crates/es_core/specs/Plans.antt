@@ -9,7 +9,7 @@ use Rattle.list_machine.specs.declared.event.Event.{Event}
 use Rattle.list_machine.specs.declared.event.Event.TheVariants.{Close, Create, OpenPit, Publish, Quiet, Seal, Search, Write}
 use Rattle.list_machine.specs.declared.event.Target.TheVariants.{Index as IndexTarget, Pit}
 use Rattle.list_machine.specs.declared.event.Reply.{Reply}
-use Rattle.list_machine.specs.declared.event.Reply.TheVariants.{Found}
+use Rattle.list_machine.specs.declared.event.Reply.TheVariants.{Done, Wrote, Sealed, Opened, Found, Closed, Spent, NoIndex, Exists, Missing, BadDoc, BadQuery, BadSort, BadAfter, TooMany, ShardFull}
 use Rattle.list_machine.specs.declared.page.request.SearchRequest.{SearchRequest}
 use Rattle.list_machine.specs.Run.{IsWithinLimits}
 use Rattle.list_machine.specs.State.{Index, index_of, view_of}
@@ -61,8 +61,22 @@ CanAnswer (Later plan) = CanRun plan
 
 -- whether a search was answered
 abbrev pub is_found : Reply → Bool
+is_found Done = false
+is_found (Wrote result seq) = false
+is_found (Sealed numbers) = false
+is_found (Opened number) = false
 is_found (Found answer) = true
-is_found other = false
+is_found (Closed freed) = false
+is_found Spent = false
+is_found NoIndex = false
+is_found Exists = false
+is_found Missing = false
+is_found (BadDoc fault) = false
+is_found BadQuery = false
+is_found BadSort = false
+is_found BadAfter = false
+is_found (TooMany limit) = false
+is_found ShardFull = false
 
 -- A search that isn't refused gets a plan, which asks for what the search asks. None is answered at once.
 abbrev pub IsPlanned : SearchRequest → Turned → Type 0

@@ -40,6 +40,6 @@ Rests old new moment =
     (limits : Limits) (history : History) (who : ℕ) → Stands limits old history → length history < MOST_ENTRIES
     → Stands limits new (history ++ record { who = who; moment = moment; event = Quiet } ∷ [])
 
--- nothing has changed: the core stands for what it stood for
+-- the core stands for what it stood for
 abbrev pub StandsOn : Core → Core → Type 0
 StandsOn old new = (limits : Limits) (history : History) → Stands limits old history → Stands limits new history

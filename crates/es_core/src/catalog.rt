@@ -53,7 +53,7 @@ impl Catalog {
         Ok(catalog)
     }
 
-    /// Takes the step of an event of the indexes alone. After `NoMemory` nothing has changed.
+    /// Takes the step of an event of the indexes alone. After `NoMemory` the machine's indexes are as they were.
     pub fn step(&mut self, event: &Event) -> Result<Reply, NoMemory>
         requires alone { IsOfIndexes event.now }
         requires bounded { IsBounded event.now }
@@ -112,7 +112,7 @@ impl Catalog {
         Ok(Reply::Done)
     }
 
-    /// Puts an index after the others. Room is made first, so that nothing has changed where there is none.
+    /// Puts an index after the others. After `NoMemory` there are the others alone, as they were.
     fn put_down(&mut self, index: Index) -> Result<(), NoMemory>
         requires { index_of index.name self.old ≡ None }
         ensures ok { OnOk result (self.new ≡ self.old ++ index_seen index ∷ []) }
@@ -147,8 +147,8 @@ impl Catalog {
         Ok(Reply::Sealed(Items::of(numbers)))
     }
 
-    /// Applies the operations of a shard up to a number. A shard that isn't there, or a number that no operation has
-    /// yet, changes nothing.
+    /// Applies the operations of a shard up to a number. Where the shard isn't there, or no operation has the number yet, the machine's
+    /// indexes stay as they are.
     fn publish(&mut self, name: &IndexName, shard: u32, upto: u64) -> Result<Reply, NoMemory>
         ensures ok { IfOk result (Moves (λ state. happen state (Publish name.now shard upto)) self.old self.new) }
         ensures err { OnErr result (self.new ≡ self.old) }

@@ -23,7 +23,7 @@ pub struct Index {
     pub name: IndexName,
     pub mapping: Arc<Mapping>,
     pub shards: Vec<Shard>,
-    /// What readers see of each shard, where one asked since its rows changed last.
+    /// What readers see of each shard as it is now, where it is kept.
     views: Vec<Option<Arc<ShardView>>>,
     ghost some: { 1 ≤ length shards.items },
     ghost few: { length shards.items ≤ ALL_SHARDS },
@@ -52,7 +52,8 @@ impl Index {
         })
     }
 
-    /// Adds the operation of a write to the shard of the document. After an error nothing has changed.
+    /// Adds the operation of a write to the shard of the document. What is kept for readers stays, and after an error the shards are as
+    /// they were.
     pub fn write(&mut self, alloc: Global, id: &DocId, change: &Change) -> Result<Reply, NoMemory>
         ensures like { index_seen self.new ≡ record (index_seen self.old) { shards = self.new.shards.items } }
         ensures ok { IfOk result (λ reply. AreNumbered most_entries self.old.shards.items
@@ -75,7 +76,7 @@ impl Index {
     }
 
     /// Applies the operations of a shard up to a number. The view that is kept of it goes where one was applied, and no other view does.
-    /// After an error nothing has changed.
+    /// After an error the shards and the kept views are as they were.
     pub fn publish(&mut self, alloc: Global, at: u32, upto: u64) -> Result<(), NoMemory>
         ensures like { index_seen self.new ≡ record (index_seen self.old) { shards = self.new.shards.items } }
         ensures ok { OnOk result (self.new.shards.items ≡ publish_in self.old.shards.items at upto) }
@@ -92,7 +93,7 @@ impl Index {
         Ok(())
     }
 
-    /// What a reader sees of the index as it is now. The view of each shard is kept for the next reader.
+    /// What a reader sees of the index as it is now. Where it is answered, the view of each shard is kept for the next reader.
     pub fn view(&mut self, alloc: Global) -> Result<Arc<View>, NoMemory>
         ensures same { index_seen self.new ≡ index_seen self.old }
         ensures view { IfOk result (λ view. arc_value view ≡ view_of (index_seen self.old)) }

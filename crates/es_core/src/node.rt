@@ -157,7 +157,7 @@ impl Core {
         }
     }
 
-    /// Ends the core, and says what is left.
+    /// Ends the core. What is left is not counted yet.
     pub fn finish(self) -> Totals
         ensures { result ≡ record { opened = 0; closed = 0; ended = 0; segments = 0; left = 0 } }
     {

@@ -20,7 +20,8 @@ use std::mem;
 #[derive(Drop)]
 pub struct ShardFull;
 
-/// A shard: the rows that a search sees, the operations that wait, and the ids that have a row once those are applied.
+/// A shard: the rows that a search sees, the operations that wait, and the ids that have a row once those are applied. Contracts see it
+/// as the machine's, by its rows and its operations.
 #[derive(Drop)]
 pub struct Shard {
     base: u64,
@@ -71,7 +72,8 @@ impl Shard {
         copy_all(alloc, &self.rows)
     }
 
-    /// Adds an operation, and says what it did and its number. After an error nothing has changed.
+    /// Adds an operation, unless the shard is full, and says what it did, and its number where that is at most 2^53. After an error rows
+    /// and operations are as they were.
     pub fn write(&mut self, alloc: Global, op: Op) -> Result<(Wrote, u64), Fail<ShardFull>>
         ensures full { is_refused result ≡ is_full_shard self.old }
         ensures rows { self.new.rows ≡ self.old.rows }
@@ -94,7 +96,7 @@ impl Shard {
         self.rows.len() + self.pending.len() >= SHARD_ROWS
     }
 
-    /// Room is made before the operation is put down, so that nothing has changed where there is none.
+    /// Adds an operation, and says what it did. After an error rows and operations are as they were.
     fn append(&mut self, alloc: Global, op: Op) -> Result<Wrote, NoMemory>
         requires { is_full_shard self.old ≡ false }
         ensures op { OnOk result (self.new ≡ append_op self.old op) }
@@ -108,8 +110,8 @@ impl Shard {
         Ok(wrote)
     }
 
-    /// Applies the operations up to a number, and says whether there were any. A number that no operation has yet changes nothing.
-    /// All memory is taken before the first change.
+    /// Applies the operations up to a number, and says whether there were any. Where there were none, where no operation has the number
+    /// yet, and after an error, rows and operations are as they were.
     pub fn publish(&mut self, alloc: Global, upto: u64) -> Result<bool, NoMemory>
         ensures ok { OnOk result (self.new ≡ publish_of self.old upto) }
         ensures applied { IfOk result (λ applied. applied ≡ applies self.old upto) }

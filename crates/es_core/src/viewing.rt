@@ -10,7 +10,7 @@ use es_types::{Items, Mapping, NoMemory};
 use std::alloc::Global;
 use std::sync::Arc;
 
-/// What a reader sees of each shard. A view that isn't kept yet is made, and kept for the next reader.
+/// What a reader sees of each shard. Where it is answered, a view of each is kept for the next reader.
 pub fn keep_views(
     alloc: Global,
     mapping: &Mapping,
@@ -31,7 +31,7 @@ pub fn keep_views(
     Ok(them)
 }
 
-/// The view of one shard: a copy of its rows, with their bounds.
+/// The view of one shard: a copy of its rows, with their bounds. One that is kept stays.
 fn keep_view(
     alloc: Global,
     mapping: &Mapping,

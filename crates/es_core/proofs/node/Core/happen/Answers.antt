@@ -1,5 +1,6 @@
 use Rattle.std.proofs.Common.{ap, arith, refl, ◌∙◌}
 use Rattle.std.proofs.lemmas.Grind.{common_steps}
+use Rattle.es_types.specs.declared.limits.TheConstants.{MOST_ENTRIES}
 use Rattle.list_machine.specs.declared.event.Event.TheVariants.{Search}
 use Rattle.list_machine.specs.declared.event.Target.{Target}
 use Rattle.context_book.specs.Books.{Book}
@@ -32,7 +33,7 @@ invariant_of-self-in-Close c =
     record {
       issued = c.close.ensures.numbers core.next core.issued;
       limited = c.close.ensures.limit ∙ core.limited;
-      few = c.close.ensures.lent 9007199254740992 core.few;
+      few = c.close.ensures.lent MOST_ENTRIES core.few;
     }
 
 pub returns-in_ok-freed-in-Close-clause-steps : goal.returns-in_ok-freed-in-Close-clause-steps

@@ -1,4 +1,5 @@
 use Rattle.std.proofs.Common.{◌<◌, All, ap, refl, subst, sym, ◌∙◌}
+use Rattle.es_types.specs.declared.limits.TheConstants.{MOST_ENTRIES}
 use Rattle.context_book.specs.declared.context.Context.{Context}
 use Rattle.context_book.specs.Books.{Book}
 use Rattle.es_core.specs.Contexts.{AllLent}
@@ -13,8 +14,8 @@ invariant_of-self-2 c =
       issued = subst (λ (book : Book). All (λ (context : Context). context.number < core.next) book.contexts) (sym c.in_ok-do_chore.ensures.left)
           (left_numbers core.next c.args.chore c.later-later.result core.book.contexts core.issued);
       limited = ap (λ (book : Book). book.limit) c.in_ok-do_chore.ensures.left ∙ core.limited;
-      few = subst (λ (book : Book). AllLent 9007199254740992 book.contexts) (sym c.in_ok-do_chore.ensures.left)
-          (left_lent 9007199254740992 c.args.chore c.later-later.result core.book.contexts core.few);
+      few = subst (λ (book : Book). AllLent MOST_ENTRIES book.contexts) (sym c.in_ok-do_chore.ensures.left)
+          (left_lent MOST_ENTRIES c.args.chore c.later-later.result core.book.contexts core.few);
     }
 
 pub returns-clause-rests : goal.returns-clause-rests
