@@ -17,7 +17,7 @@ use Rattle.reply_json.specs.declared.fault.RestFault.TheVariants as fault
 use Rattle.reply_json.specs.declared.response.Response.{Response}
 use Rattle.reply_json.specs.declared.response.Response.TheVariants.{Fault}
 use Rattle.es_rest.specs.Headline.{NeverFalls, requests_of}
-use Rattle.es_node.specs.Repeats.{NeverWants, ServesAlone, moments_of, responses_of}
+use Rattle.es_node.specs.Repeats.{AnyCall, NeverWants, ServesAlone, moments_of, responses_of}
 use Rattle.es_rest.specs.Scripts.{Part, Script, Talks}
 use Rattle.es_rest.specs.Talk.{Conversation, Exchange, Responds, Served, Serves, Tended, response_of, script_of}
 use Rattle.es_node.proofs.AtMoment.{alike_later, state_at}
@@ -150,18 +150,18 @@ responds_alike limits moment old past new other request response said alike ampl
 abbrev HadMemory : Exchange → Type 0
 HadMemory x = x.response ≢ Fault fault.NoMemory
 
-tended_grew : (limits : Limits) (moment : ℕ) (written : Bool) (old new : History) → Tended limits 0 moment written old new → Grew old new
+tended_grew : (limits : Limits) (moment : ℕ) (written : Bool) (old new : History) → Tended AnyCall AnyCall limits 0 moment written old new → Grew old new
 tended_grew limits moment true old new h =
-    grew_on old h.helped new (beside_grew 0 4 moment old h.helped h.helps)
-    (beside_grew 0 (4 + 2 * applied (state_of limits h.helped)) moment h.helped new h.tidies)
+    grew_on old h.between new (beside_grew 0 4 moment old h.between h.helps)
+    (beside_grew 0 (4 + 2 * applied (state_of limits h.between)) moment h.between new h.tidies)
 tended_grew limits moment false old new same = grew_not old new same
 
-served_grew : (limits : Limits) (old new : History) (x : Exchange) → HadMemory x → Served limits 0 old new x → Grew old new
+served_grew : (limits : Limits) (old new : History) (x : Exchange) → HadMemory x → Served AnyCall AnyCall limits 0 old new x → Grew old new
 served_grew limits old new x ample h =
     grew_on old h.answered new (responds_grew limits x.moment old h.answered x.request x.response ample h.responds)
     (tended_grew limits x.moment x.written h.answered new h.tended)
 
-serves_grew : (limits : Limits) (old new : History) (served : List Exchange) → NeverWants served → Serves limits 0 old new served
+serves_grew : (limits : Limits) (old new : History) (served : List Exchange) → NeverWants served → Serves AnyCall AnyCall limits 0 old new served
     → Grew old new
 serves_grew limits old new [] ample same = grew_not old new same
 serves_grew limits old new (x ∷ served) ample h =
@@ -169,14 +169,14 @@ serves_grew limits old new (x ∷ served) ample h =
     (serves_grew limits h.0 new served (All-tail HadMemory x served ample) h.2)
 
 -- help and tidying leave what the moment finds
-tidied : (limits : Limits) (moment : ℕ) (written : Bool) (old new : History) → Fits limits new → Tended limits 0 moment written old new
+tidied : (limits : Limits) (moment : ℕ) (written : Bool) (old new : History) → Fits limits new → Tended AnyCall AnyCall limits 0 moment written old new
     → Fits limits old × (state_at limits new moment ≡ state_at limits old moment)
 tidied limits moment true old new fits h =
-    let fit = fits_before limits h.helped new
-    (beside_grew 0 (4 + 2 * applied (state_of limits h.helped)) moment h.helped new h.tidies) fits in (
-      fits_before limits old h.helped (beside_grew 0 4 moment old h.helped h.helps) fit,
-      beside_passes limits (4 + 2 * applied (state_of limits h.helped)) moment h.helped new fits.own h.tidies
-          ∙ beside_passes limits 4 moment old h.helped fit.own h.helps,
+    let fit = fits_before limits h.between new
+    (beside_grew 0 (4 + 2 * applied (state_of limits h.between)) moment h.between new h.tidies) fits in (
+      fits_before limits old h.between (beside_grew 0 4 moment old h.between h.helps) fit,
+      beside_passes limits (4 + 2 * applied (state_of limits h.between)) moment h.between new fits.own h.tidies
+          ∙ beside_passes limits 4 moment old h.between fit.own h.helps,
     )
 tidied limits moment false old new fits same =
     (subst (Fits limits) same fits, ap (λ (l : History). state_at limits l moment) same)
@@ -184,7 +184,7 @@ tidied limits moment false old new fits same =
 -- one request at one moment
 served_alike : (limits : Limits) (old past new other : History) (x y : Exchange) → AreAlike limits x.moment old past
     → x.request ≡ y.request → y.moment ≡ x.moment
-    → HadMemory x → HadMemory y → Fits limits new → Fits limits other → Served limits 0 old new x → Served limits 0 past other y
+    → HadMemory x → HadMemory y → Fits limits new → Fits limits other → Served AnyCall AnyCall limits 0 old new x → Served AnyCall AnyCall limits 0 past other y
     → AreAlike limits x.moment new other × (x.response ≡ y.response)
 served_alike limits old past new other x y alike request moment ample enough fits fit h k =
     let one = tidied limits x.moment x.written h.answered new fits h.tended in
@@ -212,7 +212,7 @@ no_first x xs e = cc
 serves_alike : (limits : Limits) (from : ℕ) (old past new other : History) (served others : List Exchange)
     → AreAlike limits from old past
     → NeverFalls from served → NeverWants served → NeverWants others
-    → Fits limits new → Fits limits other → Serves limits 0 old new served → Serves limits 0 past other others
+    → Fits limits new → Fits limits other → Serves AnyCall AnyCall limits 0 old new served → Serves AnyCall AnyCall limits 0 past other others
     → requests_of served ≡ requests_of others → moments_of served ≡ moments_of others
     → responses_of served ≡ responses_of others
 serves_alike limits from old past new other [] [] alike rises ample enough fits fit h k requests moments = refl

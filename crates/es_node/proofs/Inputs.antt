@@ -1,19 +1,23 @@
 -- Whole inputs, and two runs over one input.
-use Rattle.std.proofs.Common.{◌≡◌, refl, sym, ap, ap₂, subst, ◌∙◌, inl, inr, ⊎_elim, ℕ, List, [], ◌∷◌, ◌++◌, take, Option, Some, None, arith}
+use Rattle.std.proofs.Common.{◌≡◌, refl, sym, ap, ap₂, subst, ◌∙◌, inl, inr, ⊎_elim, Bool, true, false, ℕ, List, [], ◌∷◌, ◌++◌, take, Option, Some, None, arith}
 use Rattle.es_types.specs.declared.limits.TheConstants.{CONNECTION_BYTES}
 use Rattle.es_outside.specs.Told.{Rose}
 use Rattle.http_wire.specs.declared.request.Request.{Request}
 use Rattle.http_wire.specs.Requests.{IsEnd}
 use Rattle.http_wire.proofs.OneHead.{ends_apart, spells_one}
+use Rattle.list_machine.specs.declared.event.Limits.{Limits}
+use Rattle.list_machine.specs.Run.{History}
+use Rattle.list_machine.specs.Serving.{Call}
 use Rattle.es_rest.specs.declared.connection.ConnEnd.{ConnEnd}
 use Rattle.es_rest.specs.declared.connection.ConnEnd.TheVariants as end
 use Rattle.es_node.specs.declared.run.Status.{Status}
 use Rattle.es_node.specs.declared.run.Status.TheVariants.{Done, ReadFault, WriteFault}
 use Rattle.es_rest.specs.Headline.{EndsWith, WroteWords, requests_of, texts_of, last_words}
 use Rattle.es_rest.specs.Moments.{moments_of as clock_moments}
-use Rattle.es_node.specs.Repeats.{Completes, EndsItself, HasRoom, NeverWants, ServesAlone, moments_of, responses_of}
+use Rattle.es_node.specs.Repeats.{AnyCall, Completes, EndsItself, HasRoom, NeverWants, ServesAlone, moments_of, responses_of}
+use Rattle.es_node.specs.Solo.{Helps, Tidies}
 use Rattle.es_node.specs.Running.{Replays, ServedOne, end_status, limits}
-use Rattle.es_rest.specs.Talk.{Exchange}
+use Rattle.es_rest.specs.Talk.{Exchange, Serves, Tended}
 use Rattle.reply_json.specs.declared.response.Response.{Response}
 use Rattle.reply_json.specs.Replies.{text}
 use Rattle.es_rest.proofs.Whole.{which_end}
@@ -39,7 +43,7 @@ completes_one bytes after written now reads reads_after writes writes_after stat
           kept = one.kept;
           end = one.end;
           status_is = sym is ∙ one.status_is;
-          greatest = one.greatest;
+          clock = one.clock;
           headline = one.headline;
         };
         all = done.1;
@@ -111,6 +115,25 @@ wrote_all left rest written after served end.ReadFault itself h = absurd itself
 wrote_all left rest written after served end.WriteFault itself h = absurd itself
 wrote_all left rest written after served end.NoMemory itself h = absurd itself
 
+-- what is said of help and of the tidying may be left out
+tended_any : (helped tidied : Call) (limits : Limits) (moment : ℕ) (written : Bool) (old new : History)
+    → Tended helped tidied limits 0 moment written old new → Tended AnyCall AnyCall limits 0 moment written old new
+tended_any helped tidied limits moment true old new h = record { between = h.between; help = tt; helps = h.helps; tidy = tt; tidies = h.tidies }
+tended_any helped tidied limits moment false old new same = same
+
+serves_any : (helped tidied : Call) (limits : Limits) (old new : History) (served : List Exchange)
+    → Serves helped tidied limits 0 old new served → Serves AnyCall AnyCall limits 0 old new served
+serves_any helped tidied limits old new [] same = same
+serves_any helped tidied limits old new (x ∷ served) h = (
+  h.0,
+  record {
+    answered = h.1.answered;
+    responds = h.1.responds;
+    tended = tended_any helped tidied limits x.moment x.written h.1.answered h.0 h.1.tended;
+  },
+  serves_any helped tidied limits h.0 new served h.2,
+)
+
 -- a run whose history kept room served alone
 served_alone : {left after written now : Option (List ℕ)} {status : Status} (one : ServedOne left after written now status)
     → NeverWants one.headline.served → HasRoom limits one.history → ServesAlone limits one.history one.headline.served
@@ -119,7 +142,7 @@ served_alone one ample room =
       kept = one.kept;
       room = room;
       own = one.own;
-      serves = one.headline.serves;
+      serves = serves_any Helps Tidies limits [] one.history one.headline.served one.headline.serves;
       never_fall = one.headline.moments.never_fall;
       ample = ample;
     }

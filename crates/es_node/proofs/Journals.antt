@@ -25,7 +25,7 @@ use Rattle.es_core.specs.declared.turned.Chore.TheVariants.{Reap}
 use Rattle.es_core.specs.Contexts.{contexts_seen, left_by}
 use Rattle.es_core.specs.Plans.{turned_reply}
 use Rattle.es_core.specs.Stands.{Rests, Stands, StandsOn}
-use Rattle.es_node.specs.Solo.{Advances, IsOwn, IsRunning, rest}
+use Rattle.es_node.specs.Solo.{Advances, IsOwn, IsRunning, Tidies, rest}
 use Rattle.es_rest.proofs.Talks.{grows_not}
 
 -- what may be asked puts objects alone
@@ -157,6 +157,11 @@ beside_one most moment =
           (All-nil (λ (e : Entry). e.who ≡ besides 0 → (e.event ≡ Quiet) × (e.moment ≡ moment)));
       few = omega (arith, one);
     }
+
+pub rests_once : (moment : ℕ) (history now : History) {E : Type 0} (r : Result (Unit {0}) E)
+    → OnOk r (now ≡ history ++ rest moment ∷ []) → OnErr r (now ≡ history) → Tidies moment history now
+rests_once moment history now (Ok done) grows stays = inl grows
+rests_once moment history now (Err e) grows stays = inr stays
 
 pub rests_beside : (most moment : ℕ) (history now : History) {E : Type 0} (r : Result (Unit {0}) E)
     → OnOk r (now ≡ history ++ rest moment ∷ []) → OnErr r (now ≡ history) → GrowsBeside 0 (4 + most) moment history now

@@ -6,7 +6,7 @@ use Rattle.http_wire.specs.declared.request.Request.{Request}
 use Rattle.http_wire.specs.Requests.{Spells}
 use Rattle.list_machine.specs.declared.event.Limits.{Limits}
 use Rattle.list_machine.specs.Run.{History}
-use Rattle.list_machine.specs.Serving.{IsKept}
+use Rattle.list_machine.specs.Serving.{Call, IsKept}
 use Rattle.es_node.specs.declared.run.Status.{Status}
 use Rattle.es_node.specs.declared.run.Status.TheVariants.{Done, Refused, NoMemory, Truncated, TooMuch}
 use Rattle.reply_json.specs.declared.response.Response.{Response}
@@ -48,13 +48,17 @@ NeverWants served = All (λ (x : Exchange). x.response ≢ Fault fault.NoMemory)
 abbrev pub HasRoom : Limits → History → Type 0
 HasRoom limits history = length history < limits.entries
 
+-- a call of which nothing is said but how the history grows
+abbrev pub AnyCall : Call
+AnyCall moment old new = Unit {0}
+
 -- These requests were served from an empty history with ample memory and room, by entries of one seat alone, at moments that
 -- never fall.
 pub record ServesAlone (limits : Limits) (history : History) (served : List Exchange) : Type 0 where
   pub kept : IsKept limits history
   pub room : HasRoom limits history
   pub own : AreOwn history
-  pub serves : Serves limits 0 [] history served
+  pub serves : Serves AnyCall AnyCall limits 0 [] history served
   pub never_fall : NeverFalls 0 served
   pub ample : NeverWants served
 

@@ -1,6 +1,7 @@
 -- What a run of the command `replay` does.
 use Rattle.std.specs.Prelude.{◌≡◌, ◌⊎◌, ℕ, Bool, false, bytes_eq, List, [], ◌∷◌, Option, Some, codes}
 use Rattle.es_types.specs.declared.limits.TheConstants.{MOST_ENTRIES, USUAL_PITS}
+use Rattle.es_outside.specs.Memory.{Asks, Dial}
 use Rattle.list_machine.specs.declared.event.Limits.{Limits}
 use Rattle.list_machine.specs.Run.{History}
 use Rattle.list_machine.specs.Serving.{IsKept}
@@ -9,7 +10,7 @@ use Rattle.es_rest.specs.declared.connection.ConnEnd.TheVariants as end
 use Rattle.es_node.specs.declared.run.Status.{Status}
 use Rattle.es_node.specs.declared.run.Status.TheVariants.{Done, Refused, Usage, ReadFault, WriteFault, NoMemory, Truncated, TooMuch}
 use Rattle.es_rest.specs.Headline.{Headline}
-use Rattle.es_node.specs.Solo.{AreOwn}
+use Rattle.es_node.specs.Solo.{AreOwn, Helps, Tidies}
 
 -- the one word `replay`
 abbrev pub is_replay : List (List ℕ) → Bool
@@ -47,8 +48,8 @@ pub record ServedOne (left after written now : Option (List ℕ)) (status : Stat
   pub kept : IsKept limits history
   pub end : ConnEnd
   pub status_is : status ≡ end_status end
-  pub greatest : ℕ
-  pub headline : Headline limits 0 [] history left after written now (Some 0) 0 greatest end
+  pub clock : Dial
+  pub headline : Headline Helps Tidies limits 0 [] history left after written now Asks (record { last = 0; greatest = 0 }) clock (Some 0) 0 clock.greatest end
 
 -- memory ran out before anything was read or written
 pub record NoneServed (left after written now : Option (List ℕ)) (status : Status) : Type 0 where

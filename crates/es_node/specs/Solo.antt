@@ -5,7 +5,7 @@ use Rattle.list_machine.specs.declared.event.Entry.{Entry}
 use Rattle.list_machine.specs.declared.event.Event.TheVariants.{Quiet}
 use Rattle.list_machine.specs.declared.event.Limits.{Limits}
 use Rattle.list_machine.specs.Run.{History, reply_of}
-use Rattle.list_machine.specs.Serving.{IsKept}
+use Rattle.list_machine.specs.Serving.{Call, IsKept}
 use Rattle.es_core.specs.declared.node.Core.{Core}
 use Rattle.es_core.specs.declared.turned.Turned.{Turned}
 use Rattle.es_core.specs.Plans.{turned_reply}
@@ -26,6 +26,14 @@ AreOwn history = All IsOwn history
 -- the Quiet of a tidying
 abbrev pub rest : ℕ → Entry
 rest moment = record { who = 1; moment = moment; event = Quiet }
+
+-- help changes nothing
+abbrev pub Helps : Call
+Helps moment old new = new ≡ old
+
+-- a tidying adds one Quiet, or nothing where the history is full or memory ran out
+abbrev pub Tidies : Call
+Tidies moment old new = (new ≡ old ++ rest moment ∷ []) ⊎ (new ≡ old)
 
 -- whatever history the core stood for, it now stands for that and the entry, and this answers the machine's reply
 abbrev pub Advances : Core → Core → Entry → Turned → Type 0

@@ -7,7 +7,7 @@ ghost use Rattle.list_machine.specs.State.{live_contexts};
 ghost use Rattle.es_core.specs.Contexts.{left_by};
 ghost use Rattle.es_core.specs.Plans.{CanAnswer, turned_reply};
 ghost use Rattle.es_core.specs.Stands.{Rests, StandsOn};
-ghost use Rattle.es_node.specs.Solo.{Advances, AreOwn, rest};
+ghost use Rattle.es_node.specs.Solo.{Advances, AreOwn, Helps, Tidies, rest};
 
 use crate::search_exec::run;
 use es_core::{Brought, Chore, Core, Turned};
@@ -129,6 +129,10 @@ impl Service for Solo {
 
     ghost limits = { λ s. s.limits };
 
+    ghost helped = { Helps };
+
+    ghost tidied = { Tidies };
+
     fn ask(&mut self, event: Event, moment: Moment) -> Result<Reply, NoMemory> {
         if self.journal.len() as u64 >= self.limits.entries {
             return Ok(Reply::Spent);
@@ -148,6 +152,7 @@ impl Service for Solo {
     }
 
     fn tidy(&mut self, moment: Moment) -> Result<(), NoMemory>
+        ensures called { Tidies moment self.old.history self.new.history }
         ensures beside { GrowsBeside 0 (4 + 2 * applied (state_of self.old.limits self.old.history)) moment self.old.history self.new.history }
         ensures limits { self.new.limits ≡ self.old.limits }
         ensures kept { IsKept self.new.limits self.new.history }

@@ -1,5 +1,5 @@
 -- What the sources, sinks and clocks in memory hold, and what a call makes of it.
-use Rattle.std.specs.Prelude.{ℕ, ◌+◌, ◌-◌, ◌++◌, List, length, take, drop, min}
+use Rattle.std.specs.Prelude.{◌≡◌, ℕ, ◌+◌, ◌-◌, ◌++◌, List, length, take, drop, max, min, Option, unwrap_or}
 use Rattle.es_outside.specs.Told.{last_count}
 
 -- one more, up to the end of the type
@@ -51,3 +51,7 @@ took_none drain = record { written = drain.written; room = drain.room; piece = d
 pub record Dial : Type 0 where
   pub last : ℕ
   pub greatest : ℕ
+
+-- a question of the clock: it answers what it is told, or its last answer again, and that is its last one then
+abbrev pub Asks : Dial → Option ℕ → ℕ → Dial → Type 0
+Asks old told answer new = (answer ≡ unwrap_or told old.last) × (new ≡ record { last = answer; greatest = max old.greatest answer })

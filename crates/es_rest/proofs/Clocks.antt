@@ -1,8 +1,8 @@
 -- What the clock answered so far, and the moment.
 use Rattle.std.proofs.Common.{◌≡◌, refl, sym, ap, subst, ◌∙◌, ℕ, max, List, [], ◌∷◌, ◌++◌, map, Option, Some, None}
 use Rattle.http_wire.specs.declared.request.Request.{Request}
-use Rattle.es_rest.specs.Headline.{FollowClock, requests_of}
-use Rattle.es_rest.specs.Moments.{clock_answer, moments_of}
+use Rattle.es_rest.specs.Headline.{AsksEach, FollowClock, latest, requests_of}
+use Rattle.es_rest.specs.Moments.{AsksOnce, clock_answer, moments_of}
 use Rattle.es_rest.specs.Talk.{Exchange}
 use Rattle.es_rest.specs.Exchanges.{LastGoesOn}
 
@@ -73,3 +73,21 @@ clock_more (Some last) now after old new served x is at so goes =
         moment ∙ (sym (moment_more last 0 requests x.request) ∙ ap (moment_after last 0) (sym (requests_more served x))),
       ),
     )
+
+-- ---- each request asks once
+
+asks_more : {S : Type 0} (asked : S → Option ℕ → ℕ → S → Type 0) (from : ℕ) (clock now after : S) (served : List Exchange) (x : Exchange)
+    → AsksEach asked from clock served now → AsksOnce asked now after x.request (latest from served) x.moment
+    → AsksEach asked from clock (served ++ x ∷ []) after
+asks_more {S} asked from clock now after [] x same once = (after, subst (λ (c : S). AsksOnce asked c after x.request from x.moment) same once, refl)
+asks_more asked from clock now after (y ∷ served) x each once = (each.0, each.1, asks_more asked y.moment each.0 now after served x each.2 once)
+
+-- and so does one more
+pub asks_on : {S : Type 0} (asked : S → Option ℕ → ℕ → S → Type 0) (clock now after : S) (old new : ℕ) (request : Request) (served : List Exchange) (x : Exchange)
+    → AsksEach asked 0 clock served now → latest 0 served ≡ old → x.request ≡ request → x.moment ≡ new → AsksOnce asked now after request old new
+    → AsksEach asked 0 clock (served ++ x ∷ []) after
+asks_on asked clock now after old new request served x each latest_is request_is moment_is once =
+    asks_more asked 0 clock now after served x each
+    (subst (λ (r : Request). AsksOnce asked now after r (latest 0 served) x.moment) (sym request_is)
+    (subst (λ (m : ℕ). AsksOnce asked now after request (latest 0 served) m) (sym moment_is)
+    (subst (λ (m : ℕ). AsksOnce asked now after request m new) (sym latest_is) once)))

@@ -11,11 +11,14 @@ use Rattle.http_wire.specs.Stream.{Buffered, HasEnded, NextOf, Wrote, WroteSome,
 use Rattle.list_machine.specs.declared.event.Limits.{Limits}
 use Rattle.list_machine.specs.Run.{History}
 use Rattle.list_machine.specs.Pages.{Enumerates}
+use Rattle.list_machine.specs.Serving.{Call}
 use Rattle.es_rest.specs.declared.connection.ConnEnd.{ConnEnd}
 use Rattle.es_rest.specs.declared.connection.ConnEnd.TheVariants as end
 use Rattle.reply_json.specs.Replies.{text}
 use Rattle.es_rest.specs.Talk.{Exchange}
-use Rattle.es_rest.specs.Headline.{AreWhole, AreWritten, requests_of, texts_of, EndsWith, Cuts, TookAll, AtReadFault, ReadsFrom, last_words, IsCut, IsLastCut, WroteWords, WritesTo, AreMoments, Headline}
+use Rattle.es_rest.specs.Headline.{AreWhole, AreWritten, requests_of, texts_of, EndsWith, Cuts, TookAll, Leaves, ReadsFrom, last_words, IsCut, IsLastCut, WroteWords, WritesTo, AreMoments, Headline}
+use Rattle.es_rest.specs.Moments.{AsksOnce}
+use Rattle.es_rest.proofs.Clocks.{asks_on}
 use Rattle.es_rest.proofs.Exchanges.{exchanged_as, wrote_none}
 use Rattle.es_rest.specs.Exchanges.{Aims, ClockAnswers, Closed, Exchanged, LastGoesOn}
 use Rattle.es_rest.proofs.Progress.{Moved, Progress, ReadOn, ReadSoFar, WroteSoFar, moved_by}
@@ -53,7 +56,7 @@ ends_by bytes left after held requests so wire.ReadFault end.ReadFault h aims = 
 ends_by bytes left after held requests so wire.NoMemory end.NoMemory h aims = tt
 ends_by bytes left after held requests so wired aim h aims = absurd aims
 
--- at a read fault no whole request was left unserved
+-- at a read fault no whole request was left unserved, and where the input ended nothing is left
 took_all : (bytes : List ℕ) (left after : Option (List ℕ)) (held : Buffered) (requests : List Request) (so : ReadOn bytes left held requests)
     → HasEnded held so.after after wire.ReadFault → TookAll bytes after requests
 took_all bytes left after held requests so h =
@@ -67,15 +70,15 @@ took_all bytes left after held requests so h =
       no_more = h.4;
     }
 
-at_fault : (bytes : List ℕ) (left after : Option (List ℕ)) (held : Buffered) (requests : List Request) (so : ReadOn bytes left held requests) (wired : WireEnd) (aim : ConnEnd)
-    → HasEnded held so.after after wired → Aims wired aim → AtReadFault bytes after requests aim
-at_fault bytes left after held requests so wire.ReadFault end.ReadFault h aims = took_all bytes left after held requests so h
-at_fault bytes left after held requests so wire.Truncated end.Truncated h aims = tt
-at_fault bytes left after held requests so wire.NotBuilt end.Refused h aims = tt
-at_fault bytes left after held requests so wire.NotBuilt end.NoMemory h aims = tt
-at_fault bytes left after held requests so wire.TooMuch end.TooMuch h aims = tt
-at_fault bytes left after held requests so wire.NoMemory end.NoMemory h aims = tt
-at_fault bytes left after held requests so wired aim h aims = absurd aims
+leaves : (bytes : List ℕ) (left after : Option (List ℕ)) (held : Buffered) (requests : List Request) (so : ReadOn bytes left held requests) (wired : WireEnd) (aim : ConnEnd)
+    → HasEnded held so.after after wired → Aims wired aim → Leaves bytes after requests aim
+leaves bytes left after held requests so wire.ReadFault end.ReadFault h aims = took_all bytes left after held requests so h
+leaves bytes left after held requests so wire.Truncated end.Truncated h aims = h.3
+leaves bytes left after held requests so wire.NotBuilt end.Refused h aims = tt
+leaves bytes left after held requests so wire.NotBuilt end.NoMemory h aims = tt
+leaves bytes left after held requests so wire.TooMuch end.TooMuch h aims = tt
+leaves bytes left after held requests so wire.NoMemory end.NoMemory h aims = tt
+leaves bytes left after held requests so wired aim h aims = absurd aims
 
 -- what the link told of the bytes, where the wire ended
 reads_end : (left now after : Option (List ℕ)) (held new : Buffered) (requests : List Request) (wired : WireEnd) (aim : ConnEnd)
@@ -84,7 +87,7 @@ reads_end None now after held new requests wired aim so next aims = tt
 reads_end (Some bytes) now after held new requests wired aim so next aims =
     let P : Option (List ℕ) → Type 0 = λ o. NextOf held new o after (Err wired) in
     let h : HasEnded held so.after after wired = subst P so.left_is next in
-    (cut_by bytes now held requests so aim (ends_by bytes now after held requests so wired aim h aims), at_fault bytes now after held requests so wired aim h aims)
+    (cut_by bytes now held requests so aim (ends_by bytes now after held requests so wired aim h aims), leaves bytes now after held requests so wired aim h aims)
 
 -- and where a write failed
 reads_fault : (left now after : Option (List ℕ)) (held : Buffered) (requests : List Request) → ReadSoFar left now held requests → ReadsFrom left after requests end.WriteFault
@@ -96,9 +99,9 @@ reads_done : (left now after : Option (List ℕ)) (held new : Buffered) (request
 reads_done None now after held new requests so next = tt
 reads_done (Some bytes) now after held new requests so next =
     let P : Option (List ℕ) → Type 0 = λ o. NextOf held new o after (Ok None) in
-    let h : (held.bytes ≡ []) × (so.after ≡ []) = subst P so.left_is next in
+    let h : (held.bytes ≡ []) × (so.after ≡ []) × (after ≡ Some []) = subst P so.left_is next in
     let nothing : stream_of held so.after ≡ [] = ap (λ (l : List ℕ). l ++ take held.room so.after) h.0 ∙ (ap (take held.room) h.1 ∙ take-nil held.room) in
-    (cut_by bytes now held requests so end.Done (omega (arith, long bytes now held requests so, so.room, ap length h.1), nothing), tt)
+    (cut_by bytes now held requests so end.Done (omega (arith, long bytes now held requests so, so.room, ap length h.1), nothing), h.2)
 
 -- ---- what was written
 
@@ -159,9 +162,9 @@ writes_cut left rest (Some written) now after served x whole cut so wrote =
 
 -- ---- the moments
 
-moments_of : (limits : Limits) (seat : ℕ) (first front : History) (left now : Option (List ℕ)) (last told : Option ℕ) (begun greatest : ℕ) (time : ℕ) (held : Buffered) (served : List Exchange)
-    → Moved limits seat first front left now last told begun greatest time held served → AreMoments last begun greatest served
-moments_of limits seat first front left now last told begun greatest time held served m =
+moments_of : (helped tidied : Call) (limits : Limits) (seat : ℕ) (first front : History) (left now : Option (List ℕ)) (last told : Option ℕ) (begun greatest : ℕ) (time : ℕ) (held : Buffered) (served : List Exchange)
+    → Moved helped tidied limits seat first front left now last told begun greatest time held served → AreMoments last begun greatest served
+moments_of helped tidied limits seat first front left now last told begun greatest time held served m =
     record {
       never_fall = m.never_fall;
       bounded = All-weaker (λ (x : Exchange). x.moment ≤ time) (λ (x : Exchange). x.moment ≤ greatest) (λ x h. omega (arith, h, m.greatest_is)) served m.below;
@@ -172,36 +175,37 @@ moments_of limits seat first front left now last told begun greatest time held s
 -- ---- the clauses of the call
 
 -- one request more was read, and the write of its response failed
-pub failed : {limits other : Limits} {seat others : ℕ} {first front after : History} {left now written before was is : Option (List ℕ)} {last told : Option ℕ} {begun greatest : ℕ} {old new : ℕ} {held : Buffered} {request : Request} {E : Type 0} {e : E}
-    (mid then : Option (List ℕ)) (tells : Option ℕ) (great : ℕ) (holds : Buffered)
-    → Progress limits seat first front left now written before last told begun greatest old held
+pub failed : {helped tidied : Call} {limits other : Limits} {seat others : ℕ} {first front after : History} {left now written before was is : Option (List ℕ)} {S : Type 0} {asked : S → Option ℕ → ℕ → S → Type 0} {clock ticks : S} {last told : Option ℕ} {begun greatest : ℕ} {old new : ℕ} {held : Buffered} {request : Request} {E : Type 0} {e : E}
+    (mid then : Option (List ℕ)) (tells : Option ℕ) (great : ℕ) (ticked : S) (holds : Buffered)
+    → Progress helped tidied limits seat first front left now written before asked clock ticks last told begun greatest old held
     → was ≡ before → NextOf held holds now mid (Ok (Some request)) → then ≡ mid → other ≡ limits → others ≡ seat
-    → Exchanged other others new front after request was is (Err e)
-    → old ≤ new → ClockAnswers old new greatest great → LastGoesOn told tells request old new
+    → Exchanged helped tidied other others new front after request was is (Err e)
+    → old ≤ new → ClockAnswers old new greatest great → LastGoesOn told tells request old new → AsksOnce asked ticks ticked request old new
     → Enumerates limits after
-    → Headline limits seat first after left then written is last begun great end.WriteFault
-failed {limits} {other} {seat} {others} {first} {front} {after} {left} {now} {written} {before} {was} {is} {last} {told} {begun} {greatest} {old} {new} {held} {request} {E} {e} mid then tells great holds p same next rest l s exchanged later asked goes law =
-    let ex : Exchanged limits seat new front after request was is (Err e) = exchanged_as l s new front after request was is (Err e) exchanged in
+    → Headline helped tidied limits seat first after left then written is asked clock ticked last begun great end.WriteFault
+failed {helped} {tidied} {limits} {other} {seat} {others} {first} {front} {after} {left} {now} {written} {before} {was} {is} {S} {asked} {clock} {ticks} {last} {told} {begun} {greatest} {old} {new} {held} {request} {E} {e} mid then tells great ticked holds p same next rest l s exchanged later answered goes once law =
+    let ex : Exchanged helped tidied limits seat new front after request was is (Err e) = exchanged_as l s new front after request was is (Err e) exchanged in
     let read : NextOf held holds now then (Ok (Some request)) = subst (λ (o : Option (List ℕ)). NextOf held holds now o (Ok (Some request))) (sym rest) next in
     let wrote : WroteSoFar written was p.served = subst (λ (o : Option (List ℕ)). WroteSoFar written o p.served) (sym same) p.wrote in
-    let m = moved_by limits seat first front after left now then was is last told tells begun greatest great old new held holds request (Err e) p.served p.moved read ex later asked goes in
+    let m = moved_by helped tidied limits seat first front after left now then was is last told tells begun greatest great old new held holds request (Err e) p.served p.moved read ex later answered goes in
     record {
       served = p.served ++ ex.x ∷ [];
       serves = m.serves;
       enumerates = law;
       reads = reads_fault left then then holds (requests_of (p.served ++ ex.x ∷ [])) m.read;
       writes = writes_cut left then written was is p.served ex.x p.whole ex.written_is wrote (subst (λ (r : Request). WroteSome was is (text ex.x.response r.last)) (sym ex.request_is) ex.wrote);
-      moments = moments_of limits seat first after left then last tells begun great new holds (p.served ++ ex.x ∷ []) m;
+      moments = moments_of helped tidied limits seat first after left then last tells begun great new holds (p.served ++ ex.x ∷ []) m;
+      asks = asks_on asked clock ticks ticked old new request p.served ex.x p.asks p.moved.latest_is ex.request_is ex.moment_is once;
       marks = inr (last_cut p.served ex.x p.whole ex.written_is);
     }
 
 -- the input ended between two requests
-pub ended : {limits : Limits} {seat : ℕ} {first front : History} {left now written before was : Option (List ℕ)} {last told : Option ℕ} {begun greatest : ℕ} {time : ℕ} {held : Buffered}
+pub ended : {helped tidied : Call} {limits : Limits} {seat : ℕ} {first front : History} {left now written before was : Option (List ℕ)} {S : Type 0} {asked : S → Option ℕ → ℕ → S → Type 0} {clock ticks : S} {last told : Option ℕ} {begun greatest : ℕ} {time : ℕ} {held : Buffered}
     (then : Option (List ℕ)) (new : Buffered)
-    → Progress limits seat first front left now written before last told begun greatest time held
+    → Progress helped tidied limits seat first front left now written before asked clock ticks last told begun greatest time held
     → was ≡ before → NextOf held new now then (Ok None) → Enumerates limits front
-    → Headline limits seat first front left then written was last begun greatest end.Done
-ended {limits} {seat} {first} {front} {left} {now} {written} {before} {was} {last} {told} {begun} {greatest} {time} {held} then new p same next law =
+    → Headline helped tidied limits seat first front left then written was asked clock ticks last begun greatest end.Done
+ended {helped} {tidied} {limits} {seat} {first} {front} {left} {now} {written} {before} {was} {S} {asked} {clock} {ticks} {last} {told} {begun} {greatest} {time} {held} then new p same next law =
     let wrote : WroteSoFar written was p.served = subst (λ (o : Option (List ℕ)). WroteSoFar written o p.served) (sym same) p.wrote in
     record {
       served = p.served;
@@ -209,22 +213,23 @@ ended {limits} {seat} {first} {front} {left} {now} {written} {before} {was} {las
       enumerates = law;
       reads = reads_done left now then held new (requests_of p.served) p.moved.read next;
       writes = writes_end left then written was was p.served end.Done (λ e. cc) wrote (wrote_none was);
-      moments = moments_of limits seat first front left now last told begun greatest time held p.served p.moved;
+      moments = moments_of helped tidied limits seat first front left now last told begun greatest time held p.served p.moved;
+      asks = p.asks;
       marks = p.whole;
     }
 
 -- the wire ended, and its last words were written or cut
-pub closed : {limits : Limits} {seat : ℕ} {first front : History} {left now written before was is : Option (List ℕ)} {last told : Option ℕ} {begun greatest : ℕ} {time : ℕ} {held : Buffered} {wired : WireEnd} {result : ConnEnd}
+pub closed : {helped tidied : Call} {limits : Limits} {seat : ℕ} {first front : History} {left now written before was is : Option (List ℕ)} {S : Type 0} {asked : S → Option ℕ → ℕ → S → Type 0} {clock ticks : S} {last told : Option ℕ} {begun greatest : ℕ} {time : ℕ} {held : Buffered} {wired : WireEnd} {result : ConnEnd}
     (mid then : Option (List ℕ)) (new : Buffered)
-    → Progress limits seat first front left now written before last told begun greatest time held
+    → Progress helped tidied limits seat first front left now written before asked clock ticks last told begun greatest time held
     → was ≡ before → NextOf held new now mid (Err wired) → then ≡ mid → Closed was is wired result → Enumerates limits front
-    → Headline limits seat first front left then written is last begun greatest result
-closed {limits} {seat} {first} {front} {left} {now} {written} {before} {was} {is} {last} {told} {begun} {greatest} {time} {held} {wired} {result} mid then new p same next rest closes law =
-    let moments = moments_of limits seat first front left now last told begun greatest time held p.served p.moved in
+    → Headline helped tidied limits seat first front left then written is asked clock ticks last begun greatest result
+closed {helped} {tidied} {limits} {seat} {first} {front} {left} {now} {written} {before} {was} {is} {S} {asked} {clock} {ticks} {last} {told} {begun} {greatest} {time} {held} {wired} {result} mid then new p same next rest closes law =
+    let moments = moments_of helped tidied limits seat first front left now last told begun greatest time held p.served p.moved in
     let wrote : WroteSoFar written was p.served = subst (λ (o : Option (List ℕ)). WroteSoFar written o p.served) (sym same) p.wrote in
     let read : NextOf held new now then (Err wired) = subst (λ (o : Option (List ℕ)). NextOf held new now o (Err wired)) (sym rest) next in
     let reads = reads_end left now then held new (requests_of p.served) wired closes.aim p.moved.read read closes.aims in
-    let P : ConnEnd → Type 0 = λ r. Headline limits seat first front left then written is last begun greatest r in
+    let P : ConnEnd → Type 0 = λ r. Headline helped tidied limits seat first front left then written is asked clock ticks last begun greatest r in
     ⊎_elim
     (λ (fine : (result ≡ closes.aim) × Wrote was is (last_words closes.aim)).
     subst P (sym fine.0) (record {
@@ -234,6 +239,7 @@ closed {limits} {seat} {first} {front} {left} {now} {written} {before} {was} {is
       reads = reads;
       writes = writes_end left then written was is p.served closes.aim (λ e. never_a_fault wired (subst (λ (a : ConnEnd). Aims wired a) e closes.aims)) wrote fine.1;
       moments = moments;
+      asks = p.asks;
       marks = marks_at p.served closes.aim p.whole;
     }))
     (λ (cut : (result ≡ end.WriteFault) × WroteSome was is (last_words closes.aim)).
@@ -244,6 +250,7 @@ closed {limits} {seat} {first} {front} {left} {now} {written} {before} {was} {is
       reads = reads_fault left now then held (requests_of p.served) p.moved.read;
       writes = writes_fault left then written was is p.served closes.aim p.whole reads wrote cut.1;
       moments = moments;
+      asks = p.asks;
       marks = inl p.whole;
     }))
     closes.wrote

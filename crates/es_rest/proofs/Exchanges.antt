@@ -4,7 +4,7 @@ use Rattle.std.specs.Result.{is_ok}
 use Rattle.std.proofs.lemmas.List.{append-nil}
 use Rattle.http_wire.specs.declared.wire.WireEnd.{WireEnd}
 use Rattle.http_wire.specs.Stream.{Wrote, WroteSome}
-use Rattle.list_machine.specs.Serving.{GrowsBeside, applied}
+use Rattle.list_machine.specs.Serving.{Call, GrowsBeside, applied}
 use Rattle.es_rest.specs.declared.connection.ConnEnd.{ConnEnd}
 use Rattle.es_rest.specs.declared.connection.ConnEnd.TheVariants as end
 use Rattle.reply_json.specs.Replies.{text}
@@ -63,25 +63,29 @@ answered_by limits seat moment old new request response None h some =
 answered_by limits seat moment old new request response (Some bytes) h some = record { response = response; responds = h; words_are = some }
 
 -- after a response that was written whole: the tidying by other names of its seat and limits
-pub tended_by : (limits other : Limits) (seat others moment : ℕ) (written : Bool) (old helped new : History) → written ≡ true → other ≡ limits → others ≡ seat
-    → GrowsBeside seat 4 moment old helped → GrowsBeside others (4 + 2 * applied (state_of other helped)) moment helped new → Tended limits seat moment written old new
-tended_by limits other seat others moment written old helped new is l s helps tidies =
-    subst (λ (b : Bool). Tended limits seat moment b old new) (sym is)
+pub tended_by : (helped tidied : Call) (limits other : Limits) (seat others moment : ℕ) (written : Bool) (old between new : History) → written ≡ true → other ≡ limits → others ≡ seat
+    → helped moment old between → GrowsBeside seat 4 moment old between
+    → tidied moment between new → GrowsBeside others (4 + 2 * applied (state_of other between)) moment between new
+    → Tended helped tidied limits seat moment written old new
+tended_by helped tidied limits other seat others moment written old between new is l s help helps tidy tidies =
+    subst (λ (b : Bool). Tended helped tidied limits seat moment b old new) (sym is)
     (record {
-      helped = helped;
+      between = between;
+      help = help;
       helps = helps;
-      tidies = subst (λ (k : Limits). GrowsBeside seat (4 + 2 * applied (state_of k helped)) moment helped new) l
-          (subst (λ (t : ℕ). GrowsBeside t (4 + 2 * applied (state_of other helped)) moment helped new) s tidies);
+      tidy = tidy;
+      tidies = subst (λ (k : Limits). GrowsBeside seat (4 + 2 * applied (state_of k between)) moment between new) l
+          (subst (λ (t : ℕ). GrowsBeside t (4 + 2 * applied (state_of other between)) moment between new) s tidies);
     })
 
 -- a request, its response, and what goes with it by other names of its seat and limits
-pub exchanged_by : (limits other : Limits) (seat others moment : ℕ) (front mid after : History) (request : Request) (words : List ℕ) (written now : Option (List ℕ)) {E : Type 0} (result : Result (Unit {0}) E) (whole : Bool)
+pub exchanged_by : (helped tidied : Call) (limits other : Limits) (seat others moment : ℕ) (front mid after : History) (request : Request) (words : List ℕ) (written now : Option (List ℕ)) {E : Type 0} (result : Result (Unit {0}) E) (whole : Bool)
     → other ≡ limits → others ≡ seat → Answered limits seat moment front mid request words → WroteBy written now words result
-    → whole ≡ is_ok result → Tended other others moment whole mid after
-    → Exchanged limits seat moment front after request written now result
-exchanged_by limits other seat others moment front mid after request words written now {E} result whole l s answered wrote marked tended =
-    let h : Tended limits seat moment whole mid after
-    = subst (λ (k : Limits). Tended k seat moment whole mid after) l (subst (λ (t : ℕ). Tended other t moment whole mid after) s tended) in
+    → whole ≡ is_ok result → Tended helped tidied other others moment whole mid after
+    → Exchanged helped tidied limits seat moment front after request written now result
+exchanged_by helped tidied limits other seat others moment front mid after request words written now {E} result whole l s answered wrote marked tended =
+    let h : Tended helped tidied limits seat moment whole mid after
+    = subst (λ (k : Limits). Tended helped tidied k seat moment whole mid after) l (subst (λ (t : ℕ). Tended helped tidied other t moment whole mid after) s tended) in
     record {
       x = record { request = request; moment = moment; response = answered.response; written = whole };
       request_is = refl;
@@ -92,7 +96,7 @@ exchanged_by limits other seat others moment front mid after request words writt
     }
 
 -- the same exchange by other names of the seat and the limits
-pub exchanged_as : {limits other : Limits} {seat others : ℕ} → other ≡ limits → others ≡ seat → (moment : ℕ) (front after : History) (request : Request) (written now : Option (List ℕ)) {E : Type 0} (result : Result (Unit {0}) E)
-    → Exchanged other others moment front after request written now result → Exchanged limits seat moment front after request written now result
-exchanged_as {limits} {other} {seat} {others} l s moment front after request written now {E} result h =
-    subst (λ (k : Limits). Exchanged k seat moment front after request written now result) l (subst (λ (t : ℕ). Exchanged other t moment front after request written now result) s h)
+pub exchanged_as : {helped tidied : Call} {limits other : Limits} {seat others : ℕ} → other ≡ limits → others ≡ seat → (moment : ℕ) (front after : History) (request : Request) (written now : Option (List ℕ)) {E : Type 0} (result : Result (Unit {0}) E)
+    → Exchanged helped tidied other others moment front after request written now result → Exchanged helped tidied limits seat moment front after request written now result
+exchanged_as {helped} {tidied} {limits} {other} {seat} {others} l s moment front after request written now {E} result h =
+    subst (λ (k : Limits). Exchanged helped tidied k seat moment front after request written now result) l (subst (λ (t : ℕ). Exchanged helped tidied other t moment front after request written now result) s h)

@@ -9,10 +9,12 @@ use Rattle.http_wire.specs.Requests.{Begins, Spells}
 use Rattle.http_wire.specs.Stream.{Buffered, Gave, NextOf, Wrote}
 use Rattle.list_machine.specs.declared.event.Limits.{Limits}
 use Rattle.list_machine.specs.Run.{History}
+use Rattle.list_machine.specs.Serving.{Call}
 use Rattle.reply_json.specs.Replies.{text}
 use Rattle.es_rest.specs.Talk.{Exchange, Served, Serves}
-use Rattle.es_rest.specs.Headline.{AreWhole, requests_of, texts_of, NeverFalls, FollowClock, latest}
-use Rattle.es_rest.proofs.Clocks.{ClockSoFar, clock_more, clock_starts, requests_more, told_none}
+use Rattle.es_rest.specs.Headline.{AreWhole, AsksEach, requests_of, texts_of, NeverFalls, FollowClock, latest}
+use Rattle.es_rest.specs.Moments.{AsksOnce}
+use Rattle.es_rest.proofs.Clocks.{ClockSoFar, asks_on, clock_more, clock_starts, requests_more, told_none}
 use Rattle.es_rest.proofs.Exchanges.{exchanged_as}
 use Rattle.es_rest.specs.Exchanges.{ClockAnswers, Exchanged, LastGoesOn}
 
@@ -34,8 +36,8 @@ WroteSoFar None after served = Unit {0}
 WroteSoFar (Some written) after served = after ≡ Some (written ++ texts_of served)
 
 -- all but what was written
-pub record Moved (limits : Limits) (seat : ℕ) (old new : History) (left after : Option (List ℕ)) (last now : Option ℕ) (begun greatest : ℕ) (time : ℕ) (held : Buffered) (served : List Exchange) : Type 0 where
-  pub serves : Serves limits seat old new served
+pub record Moved (helped tidied : Call) (limits : Limits) (seat : ℕ) (old new : History) (left after : Option (List ℕ)) (last now : Option ℕ) (begun greatest : ℕ) (time : ℕ) (held : Buffered) (served : List Exchange) : Type 0 where
+  pub serves : Serves helped tidied limits seat old new served
   pub read : ReadSoFar left after held (requests_of served)
   pub never_fall : NeverFalls 0 served
   pub below : All (λ (x : Exchange). x.moment ≤ time) served
@@ -45,11 +47,12 @@ pub record Moved (limits : Limits) (seat : ℕ) (old new : History) (left after 
   pub goes_on : ClockSoFar last now (requests_of served) time
 
 -- so far
-pub record Progress (limits : Limits) (seat : ℕ) (old new : History) (left after written now : Option (List ℕ)) (last told : Option ℕ) (begun greatest : ℕ) (time : ℕ) (held : Buffered) : Type 0 where
+pub record Progress (helped tidied : Call) (limits : Limits) (seat : ℕ) (old new : History) (left after written now : Option (List ℕ)) {S : Type 0} (asked : S → Option ℕ → ℕ → S → Type 0) (clock ticks : S) (last told : Option ℕ) (begun greatest : ℕ) (time : ℕ) (held : Buffered) : Type 0 where
   pub served : List Exchange
-  pub moved : Moved limits seat old new left after last told begun greatest time held served
+  pub moved : Moved helped tidied limits seat old new left after last told begun greatest time held served
   pub wrote : WroteSoFar written now served
   pub whole : AreWhole served
+  pub asks : AsksEach asked 0 clock served ticks
 
 -- ---- one request more
 
@@ -57,10 +60,10 @@ spells_more : (stream : List ℕ) (requests : List Request) (rest more : List �
 spells_more stream [] rest more request s b = (more, subst (λ (l : List ℕ). Begins l request more) (sym s) b, refl)
 spells_more stream (r ∷ requests) rest more request s b = (s.0, s.1, spells_more s.0 requests rest more request s.2 b)
 
-serves_more : (limits : Limits) (seat : ℕ) (old mid new : History) (served : List Exchange) (x : Exchange)
-    → Serves limits seat old mid served → Served limits seat mid new x → Serves limits seat old new (served ++ x ∷ [])
-serves_more limits seat old mid new [] x s h = (new, subst (λ (l : History). Served limits seat l new x) s h, refl)
-serves_more limits seat old mid new (y ∷ served) x s h = (s.0, s.1, serves_more limits seat s.0 mid new served x s.2 h)
+serves_more : (helped tidied : Call) (limits : Limits) (seat : ℕ) (old mid new : History) (served : List Exchange) (x : Exchange)
+    → Serves helped tidied limits seat old mid served → Served helped tidied limits seat mid new x → Serves helped tidied limits seat old new (served ++ x ∷ [])
+serves_more helped tidied limits seat old mid new [] x s h = (new, subst (λ (l : History). Served helped tidied limits seat l new x) s h, refl)
+serves_more helped tidied limits seat old mid new (y ∷ served) x s h = (s.0, s.1, serves_more helped tidied limits seat s.0 mid new served x s.2 h)
 
 falls_more : (from : ℕ) (served : List Exchange) (x : Exchange) → NeverFalls from served → All (λ (y : Exchange). y.moment ≤ x.moment) served → from ≤ x.moment → NeverFalls from (served ++ x ∷ [])
 falls_more from [] x n below h = (h, tt)
@@ -96,16 +99,16 @@ read_more (Some bytes) now after old new requests request so next =
     }
 
 -- what a request and its response make of all but the bytes that were written
-moved_more : (limits : Limits) (seat : ℕ) (first front after : History) (left now then : Option (List ℕ)) (last told tells : Option ℕ) (begun greatest great : ℕ) (old new : ℕ) (held holds : Buffered) (served : List Exchange) (x : Exchange)
-    → Moved limits seat first front left now last told begun greatest old held served
+moved_more : (helped tidied : Call) (limits : Limits) (seat : ℕ) (first front after : History) (left now then : Option (List ℕ)) (last told tells : Option ℕ) (begun greatest great : ℕ) (old new : ℕ) (held holds : Buffered) (served : List Exchange) (x : Exchange)
+    → Moved helped tidied limits seat first front left now last told begun greatest old held served
     → ReadSoFar left then holds (requests_of served ++ x.request ∷ [])
-    → Served limits seat front after x → x.moment ≡ new
+    → Served helped tidied limits seat front after x → x.moment ≡ new
     → old ≤ new → ClockAnswers old new greatest great → LastGoesOn told tells x.request old new
-    → Moved limits seat first after left then last tells begun great new holds (served ++ x ∷ [])
-moved_more limits seat first front after left now then last told tells begun greatest great old new held holds served x m read serve moment later asked goes =
+    → Moved helped tidied limits seat first after left then last tells begun great new holds (served ++ x ∷ [])
+moved_more helped tidied limits seat first front after left now then last told tells begun greatest great old new held holds served x m read serve moment later asked goes =
     let lasts = clock_more last told tells old new served x moment m.told m.goes_on goes in
     record {
-      serves = serves_more limits seat first front after served x m.serves serve;
+      serves = serves_more helped tidied limits seat first front after served x m.serves serve;
       read = subst (λ (rs : List Request). ReadSoFar left then holds rs) (sym (requests_more served x)) read;
       never_fall = falls_more 0 served x m.never_fall
           (All-weaker (λ (y : Exchange). y.moment ≤ old) (λ (y : Exchange). y.moment ≤ x.moment) (λ y h. omega (arith, h, later, moment)) served m.below) (omega arith);
@@ -148,20 +151,20 @@ wrote_nothing None = tt
 wrote_nothing (Some written) = ap Some (sym (append-nil written))
 
 -- the same as moved_more, from what the exchange says
-pub moved_by : (limits : Limits) (seat : ℕ) (first front after : History) (left now then was is : Option (List ℕ)) (last told tells : Option ℕ) (begun greatest great : ℕ) (old new : ℕ) (held holds : Buffered) (request : Request) {E : Type 0} (result : Result (Unit {0}) E) (served : List Exchange)
-    → Moved limits seat first front left now last told begun greatest old held served
-    → NextOf held holds now then (Ok (Some request)) → (ex : Exchanged limits seat new front after request was is result)
+pub moved_by : (helped tidied : Call) (limits : Limits) (seat : ℕ) (first front after : History) (left now then was is : Option (List ℕ)) (last told tells : Option ℕ) (begun greatest great : ℕ) (old new : ℕ) (held holds : Buffered) (request : Request) {E : Type 0} (result : Result (Unit {0}) E) (served : List Exchange)
+    → Moved helped tidied limits seat first front left now last told begun greatest old held served
+    → NextOf held holds now then (Ok (Some request)) → (ex : Exchanged helped tidied limits seat new front after request was is result)
     → old ≤ new → ClockAnswers old new greatest great → LastGoesOn told tells request old new
-    → Moved limits seat first after left then last tells begun great new holds (served ++ ex.x ∷ [])
-moved_by limits seat first front after left now then was is last told tells begun greatest great old new held holds request result served m next ex later asked goes =
-    moved_more limits seat first front after left now then last told tells begun greatest great old new held holds served ex.x m
+    → Moved helped tidied limits seat first after left then last tells begun great new holds (served ++ ex.x ∷ [])
+moved_by helped tidied limits seat first front after left now then was is last told tells begun greatest great old new held holds request result served m next ex later asked goes =
+    moved_more helped tidied limits seat first front after left now then last told tells begun greatest great old new held holds served ex.x m
     (subst (λ (r : Request). ReadSoFar left then holds (requests_of served ++ r ∷ [])) (sym ex.request_is) (read_more left now then held holds (requests_of served) request m.read next))
     ex.served ex.moment_is later asked (subst (λ (r : Request). LastGoesOn told tells r old new) (sym ex.request_is) goes)
 
-pub starts : (limits : Limits) (seat : ℕ) (first : History) (left written : Option (List ℕ)) (last : Option ℕ) (greatest : ℕ) (time : ℕ) (held : Buffered)
+pub starts : (helped tidied : Call) (limits : Limits) (seat : ℕ) (first : History) (left written : Option (List ℕ)) {S : Type 0} (asked : S → Option ℕ → ℕ → S → Type 0) (clock : S) (last : Option ℕ) (greatest : ℕ) (time : ℕ) (held : Buffered)
     → time ≡ 0 → held ≡ record { bytes = []; room = CONNECTION_BYTES }
-    → Progress limits seat first first left left written written last last greatest greatest time held
-starts limits seat first left written last greatest time held none empty =
+    → Progress helped tidied limits seat first first left left written written asked clock clock last last greatest greatest time held
+starts helped tidied limits seat first left written asked clock last greatest time held none empty =
     record {
       served = [];
       moved = record {
@@ -176,23 +179,25 @@ starts limits seat first left written last greatest time held none empty =
       };
       wrote = wrote_nothing written;
       whole = All-nil (λ (x : Exchange). x.written ≡ true);
+      asks = refl;
     }
 
 -- one request more was read, and its response written
-pub goes_on : {limits other : Limits} {seat others : ℕ} {first front after : History} {left now written before was is : Option (List ℕ)} {last told : Option ℕ} {begun greatest : ℕ} {old new : ℕ} {held : Buffered} {request : Request} {E : Type 0} {done : Unit {0}}
-    (mid then : Option (List ℕ)) (tells : Option ℕ) (great : ℕ) (holds : Buffered)
-    → Progress limits seat first front left now written before last told begun greatest old held
+pub goes_on : {helped tidied : Call} {limits other : Limits} {seat others : ℕ} {first front after : History} {left now written before was is : Option (List ℕ)} {S : Type 0} {asked : S → Option ℕ → ℕ → S → Type 0} {clock ticks : S} {last told : Option ℕ} {begun greatest : ℕ} {old new : ℕ} {held : Buffered} {request : Request} {E : Type 0} {done : Unit {0}}
+    (mid then : Option (List ℕ)) (tells : Option ℕ) (great : ℕ) (ticked : S) (holds : Buffered)
+    → Progress helped tidied limits seat first front left now written before asked clock ticks last told begun greatest old held
     → was ≡ before → NextOf held holds now mid (Ok (Some request)) → then ≡ mid → other ≡ limits → others ≡ seat
-    → Exchanged other others new front after request was is {E = E} (Ok done)
-    → old ≤ new → ClockAnswers old new greatest great → LastGoesOn told tells request old new
-    → Progress limits seat first after left then written is last tells begun great new holds
-goes_on {limits} {other} {seat} {others} {first} {front} {after} {left} {now} {written} {before} {was} {is} {last} {told} {begun} {greatest} {old} {new} {held} {request} {E} {done} mid then tells great holds p same next rest l s exchanged later asked goes =
-    let ex : Exchanged limits seat new front after request was is {E = E} (Ok done) = exchanged_as l s new front after request was is (Ok done) exchanged in
+    → Exchanged helped tidied other others new front after request was is {E = E} (Ok done)
+    → old ≤ new → ClockAnswers old new greatest great → LastGoesOn told tells request old new → AsksOnce asked ticks ticked request old new
+    → Progress helped tidied limits seat first after left then written is asked clock ticked last tells begun great new holds
+goes_on {helped} {tidied} {limits} {other} {seat} {others} {first} {front} {after} {left} {now} {written} {before} {was} {is} {S} {asked} {clock} {ticks} {last} {told} {begun} {greatest} {old} {new} {held} {request} {E} {done} mid then tells great ticked holds p same next rest l s exchanged later answered goes once =
+    let ex : Exchanged helped tidied limits seat new front after request was is {E = E} (Ok done) = exchanged_as l s new front after request was is (Ok done) exchanged in
     let read : NextOf held holds now then (Ok (Some request)) = subst (λ (o : Option (List ℕ)). NextOf held holds now o (Ok (Some request))) (sym rest) next in
     let wrote : WroteSoFar written was p.served = subst (λ (o : Option (List ℕ)). WroteSoFar written o p.served) (sym same) p.wrote in
     record {
       served = p.served ++ ex.x ∷ [];
-      moved = moved_by limits seat first front after left now then was is last told tells begun greatest great old new held holds request (Ok done) p.served p.moved read ex later asked goes;
+      moved = moved_by helped tidied limits seat first front after left now then was is last told tells begun greatest great old new held holds request (Ok done) p.served p.moved read ex later answered goes;
       wrote = wrote_on written was is p.served ex.x wrote (subst (λ (r : Request). Wrote was is (text ex.x.response r.last)) (sym ex.request_is) ex.wrote);
       whole = whole_more p.served ex.x p.whole ex.written_is;
+      asks = asks_on asked clock ticks ticked old new request p.served ex.x p.asks p.moved.latest_is ex.request_is ex.moment_is once;
     }

@@ -8,6 +8,7 @@ use Rattle.http_wire.specs.Requests.{IsEnd, Spells}
 use Rattle.http_wire.proofs.OneHead.{ends_apart, spells_one}
 use Rattle.list_machine.specs.declared.event.Limits.{Limits}
 use Rattle.list_machine.specs.Run.{History}
+use Rattle.list_machine.specs.Serving.{Call}
 use Rattle.es_rest.specs.declared.connection.ConnEnd.{ConnEnd}
 use Rattle.es_rest.specs.declared.connection.ConnEnd.TheVariants as end
 use Rattle.es_rest.specs.Headline.{Cuts, Headline, requests_of}
@@ -35,15 +36,15 @@ which_end bytes served requests end.WriteFault cuts spells room read write = abs
 which_end bytes served requests end.NoMemory cuts spells room read write = inl refl
 
 -- a connection whose input is whole requests
-pub serves_whole : (limits : Limits) (seat : ℕ) (old new : History) (left after written now : Option (List ℕ)) (last : Option ℕ) (begun greatest reads reads_after writes writes_after : ℕ) (ended : ConnEnd) → Headline limits seat old new left after written now last begun greatest ended
+pub serves_whole : (helped tidied : Call) (limits : Limits) (seat : ℕ) (old new : History) (left after written now : Option (List ℕ)) {S : Type 0} (asked : S → Option ℕ → ℕ → S → Type 0) (clock clock_after : S) (last : Option ℕ) (begun greatest reads reads_after writes writes_after : ℕ) (ended : ConnEnd) → Headline helped tidied limits seat old new left after written now asked clock clock_after last begun greatest ended
     → (ended ≡ end.ReadFault → Rose reads reads_after) → (ended ≡ end.WriteFault → Rose writes writes_after)
-    → ServesWhole limits seat old new left after written now last begun greatest reads reads_after writes writes_after ended
-serves_whole limits seat old new None after written now last begun greatest reads reads_after writes writes_after ended h read write = tt
-serves_whole limits seat old new (Some bytes) after written now last begun greatest reads reads_after writes writes_after ended h read write =
+    → ServesWhole helped tidied limits seat old new left after written now asked clock clock_after last begun greatest reads reads_after writes writes_after ended
+serves_whole helped tidied limits seat old new None after written now asked clock clock_after last begun greatest reads reads_after writes writes_after ended h read write = tt
+serves_whole helped tidied limits seat old new (Some bytes) after written now asked clock clock_after last begun greatest reads reads_after writes writes_after ended h read write =
     λ requests spells room no_read no_write. ⊎_elim
     (λ wants. inl wants)
     (λ done.
-    let P : ConnEnd → Type 0 = λ e. (k : Headline limits seat old new (Some bytes) after written now last begun greatest e) × (requests_of k.served ≡ requests) in
+    let P : ConnEnd → Type 0 = λ e. (k : Headline helped tidied limits seat old new (Some bytes) after written now asked clock clock_after last begun greatest e) × (requests_of k.served ≡ requests) in
     let all = subst P done.0 (h, done.1) in
     inr (done.0, record { headline = all.0; all = all.1 }))
     (which_end bytes (requests_of h.served) requests ended h.reads.0 spells room (λ e. no_read (read e)) (λ e. no_write (write e)))

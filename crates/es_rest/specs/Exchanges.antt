@@ -7,6 +7,7 @@ use Rattle.http_wire.specs.declared.wire.WireEnd.TheVariants as wire
 use Rattle.http_wire.specs.Stream.{Wrote, WroteSome}
 use Rattle.list_machine.specs.declared.event.Limits.{Limits}
 use Rattle.list_machine.specs.Run.{History}
+use Rattle.list_machine.specs.Serving.{Call}
 use Rattle.es_rest.specs.declared.connection.ConnEnd.{ConnEnd}
 use Rattle.es_rest.specs.declared.connection.ConnEnd.TheVariants as end
 use Rattle.reply_json.specs.declared.fault.RestFault.TheVariants as fault
@@ -43,12 +44,12 @@ abbrev pub ClockAnswers : ℕ → ℕ → ℕ → ℕ → Type 0
 ClockAnswers old new greatest great = (answer : ℕ) × (new ≡ max old answer) × (great ≡ max greatest answer)
 
 -- a request was served at a moment, and its response was written whole exactly where that is answered
-pub record Exchanged (limits : Limits) (seat moment : ℕ) (front after : History) (request : Request) (written now : Option (List ℕ)) {E : Type 0} (result : Result (Unit {0}) E) : Type 0 where
+pub record Exchanged (helped tidied : Call) (limits : Limits) (seat moment : ℕ) (front after : History) (request : Request) (written now : Option (List ℕ)) {E : Type 0} (result : Result (Unit {0}) E) : Type 0 where
   pub x : Exchange
   pub request_is : x.request ≡ request
   pub moment_is : x.moment ≡ moment
   pub written_is : x.written ≡ is_ok result
-  pub served : Served limits seat front after x
+  pub served : Served helped tidied limits seat front after x
   pub wrote : WroteBy written now (text x.response request.last) result
 
 -- what an end of the wire comes to; memory may run out at its words too

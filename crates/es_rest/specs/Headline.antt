@@ -6,12 +6,13 @@ use Rattle.http_wire.specs.Requests.{HasNoRequest, IsRefused, IsUnfinished, Spel
 use Rattle.list_machine.specs.declared.event.Limits.{Limits}
 use Rattle.list_machine.specs.Run.{History}
 use Rattle.list_machine.specs.Pages.{Enumerates}
+use Rattle.list_machine.specs.Serving.{Call}
 use Rattle.es_rest.specs.declared.connection.ConnEnd.{ConnEnd}
 use Rattle.es_rest.specs.declared.connection.ConnEnd.TheVariants.{Done, Refused, ReadFault, WriteFault, NoMemory, Truncated, TooMuch}
 use Rattle.reply_json.specs.declared.response.Response.TheVariants.{Fault}
 use Rattle.reply_json.specs.declared.fault.RestFault.TheVariants as fault
 use Rattle.reply_json.specs.Replies.{text}
-use Rattle.es_rest.specs.Moments.{moments_of}
+use Rattle.es_rest.specs.Moments.{AsksOnce, moments_of}
 use Rattle.es_rest.specs.Talk.{Exchange, Serves}
 
 abbrev pub requests_of : List Exchange → List Request
@@ -43,14 +44,17 @@ pub record TookAll (bytes : List ℕ) (left : Option (List ℕ)) (requests : Lis
   pub spells : Spells taken requests rest
   pub no_more : HasNoRequest rest
 
-abbrev pub AtReadFault : List ℕ → Option (List ℕ) → List Request → ConnEnd → Type 0
-AtReadFault bytes left requests ReadFault = TookAll bytes left requests
-AtReadFault bytes left requests end = Unit {0}
+-- What the link has left: nothing where its input ended, and at a read fault no whole request was taken that wasn't served.
+abbrev pub Leaves : List ℕ → Option (List ℕ) → List Request → ConnEnd → Type 0
+Leaves bytes left requests Done = left ≡ Some []
+Leaves bytes left requests Truncated = left ≡ Some []
+Leaves bytes left requests ReadFault = TookAll bytes left requests
+Leaves bytes left requests end = Unit {0}
 
 -- where the link tells what was left before the call
 abbrev pub ReadsFrom : Option (List ℕ) → Option (List ℕ) → List Request → ConnEnd → Type 0
 ReadsFrom None left requests end = Unit {0}
-ReadsFrom (Some bytes) left requests end = Cuts bytes requests end × AtReadFault bytes left requests end
+ReadsFrom (Some bytes) left requests end = Cuts bytes requests end × Leaves bytes left requests end
 
 -- ---- which responses were written
 
@@ -138,16 +142,23 @@ pub record AreMoments (last : Option ℕ) (begun greatest : ℕ) (served : List 
   pub greatest_is : greatest ≡ max begun (latest 0 served)
   pub told : FollowClock last served
 
+-- Each request asks the clock once, with what it hands in, and nothing else leads the clock from one state to another.
+abbrev pub AsksEach : {S : Type 0} → (S → Option ℕ → ℕ → S → Type 0) → ℕ → S → List Exchange → S → Type 0
+AsksEach asked from old [] new = new ≡ old
+AsksEach {S} asked from old (x ∷ served) new =
+    (next : S) × AsksOnce asked old next x.request from x.moment × AsksEach asked x.moment next served new
+
 -- ---- the whole
 
 -- Each response is what a plain machine of one thread over lists answers at that request's place in one history,
 -- and pages taken in turn are a prefix of the sorted matching documents of their frozen view, and all of them at
 -- the end.
-pub record Headline (limits : Limits) (seat : ℕ) (old new : History) (left left_after written written_after : Option (List ℕ)) (last : Option ℕ) (begun greatest : ℕ) (end : ConnEnd) : Type 0 where
+pub record Headline (helped tidied : Call) (limits : Limits) (seat : ℕ) (old new : History) (left left_after written written_after : Option (List ℕ)) {S : Type 0} (asked : S → Option ℕ → ℕ → S → Type 0) (clock clock_after : S) (last : Option ℕ) (begun greatest : ℕ) (end : ConnEnd) : Type 0 where
   pub served : List Exchange
-  pub serves : Serves limits seat old new served
+  pub serves : Serves helped tidied limits seat old new served
   pub enumerates : Enumerates limits new
   pub reads : ReadsFrom left left_after (requests_of served) end
   pub writes : WritesTo left left_after written written_after served end
   pub moments : AreMoments last begun greatest served
+  pub asks : AsksEach asked 0 clock served clock_after
   pub marks : AreWritten served end

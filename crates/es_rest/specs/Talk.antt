@@ -13,7 +13,7 @@ use Rattle.list_machine.specs.declared.event.Target.TheVariants.{Index, Pit}
 use Rattle.list_machine.specs.declared.event.Which.TheVariants.{Pits}
 use Rattle.list_machine.specs.declared.event.Limits.{Limits}
 use Rattle.list_machine.specs.Run.{History, state_of}
-use Rattle.list_machine.specs.Serving.{GrowsBeside, applied}
+use Rattle.list_machine.specs.Serving.{Call, GrowsBeside, applied}
 use Rattle.es_rest.specs.declared.refusal.Named.{Named}
 use Rattle.es_rest.specs.declared.refusal.Named.TheVariants as named
 use Rattle.reply_json.specs.declared.fault.RestFault.{RestFault}
@@ -170,25 +170,28 @@ pub record Exchange : Type 0 where
   pub response : Response
   pub written : Bool
 
--- some help, and then the tidying
-pub record HelpsAndTidies (limits : Limits) (seat moment : ℕ) (old new : History) : Type 0 where
-  pub helped : History
-  pub helps : GrowsBeside seat 4 moment old helped
-  pub tidies : GrowsBeside seat (4 + 2 * applied (state_of limits helped)) moment helped new
+-- one call of help, and then one of the tidying
+pub record HelpsAndTidies (helped tidied : Call) (limits : Limits) (seat moment : ℕ) (old new : History) : Type 0 where
+  pub between : History
+  pub help : helped moment old between
+  pub helps : GrowsBeside seat 4 moment old between
+  pub tidy : tidied moment between new
+  pub tidies : GrowsBeside seat (4 + 2 * applied (state_of limits between)) moment between new
 
--- What a request leaves after its answer: help and tidying go with each one whose response was written whole, and after one that
--- wasn't nothing is added.
-abbrev pub Tended : Limits → ℕ → ℕ → Bool → History → History → Type 0
-Tended limits seat moment true old new = HelpsAndTidies limits seat moment old new
-Tended limits seat moment false old new = new ≡ old
+-- What a request leaves after its answer: help and tidying are called once each, in this order, after each response that was written
+-- whole, and after one that wasn't nothing is added.
+abbrev pub Tended : Call → Call → Limits → ℕ → ℕ → Bool → History → History → Type 0
+Tended helped tidied limits seat moment true old new = HelpsAndTidies helped tidied limits seat moment old new
+Tended helped tidied limits seat moment false old new = new ≡ old
 
 -- the response, and what the request leaves after it
-pub record Served (limits : Limits) (seat : ℕ) (old new : History) (x : Exchange) : Type 0 where
+pub record Served (helped tidied : Call) (limits : Limits) (seat : ℕ) (old new : History) (x : Exchange) : Type 0 where
   pub answered : History
   pub responds : Responds limits seat x.moment old answered x.request x.response
-  pub tended : Tended limits seat x.moment x.written answered new
+  pub tended : Tended helped tidied limits seat x.moment x.written answered new
 
 -- The history goes from old to new while a seat serves these requests with these responses.
-abbrev pub Serves : Limits → ℕ → History → History → List Exchange → Type 0
-Serves limits seat old new [] = new ≡ old
-Serves limits seat old new (x ∷ served) = (mid : History) × Served limits seat old mid x × Serves limits seat mid new served
+abbrev pub Serves : Call → Call → Limits → ℕ → History → History → List Exchange → Type 0
+Serves helped tidied limits seat old new [] = new ≡ old
+Serves helped tidied limits seat old new (x ∷ served) =
+    (mid : History) × Served helped tidied limits seat old mid x × Serves helped tidied limits seat mid new served

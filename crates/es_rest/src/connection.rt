@@ -6,6 +6,7 @@ ghost use Rattle.http_wire.specs.Stream.{Wrote, WroteSome};
 ghost use Rattle.es_rest.specs.Headline.{Headline};
 ghost use Rattle.es_route.specs.Resources.{all_routes};
 ghost use Rattle.es_route.specs.Route.{PitSearchesShowPlaces};
+ghost use Rattle.es_rest.specs.Moments.{AsksOnce};
 ghost use Rattle.es_rest.specs.Talk.{Tended};
 ghost use Rattle.es_rest.specs.Whole.{ServesWhole};
 ghost use Rattle.reply_json.specs.Replies.{text};
@@ -80,7 +81,7 @@ fn write_words<L: Link>(link: &mut L, words: &Option<Bytes>, last: bool) -> Resu
 
 // What goes with a request. It is left out where the response wasn't written, and nobody is told if memory runs out in it.
 fn tidy_up<V: Service>(service: &mut V, moment: Moment, written: bool)
-    ensures tended { Tended (V.limits service.old) (V.seat service.old) moment written (V.front service.old) (V.front service.new) }
+    ensures tended { Tended V.helped V.tidied (V.limits service.old) (V.seat service.old) moment written (V.front service.old) (V.front service.new) }
     ensures seat { V.seat service.new ≡ V.seat service.old }
     ensures limits { V.limits service.new ≡ V.limits service.old }
 {
@@ -102,12 +103,13 @@ fn exchange<V: Service, L: Link, C: Clock>(
     moment: &mut Moment,
 ) -> Result<(), WriteFault>
     requires { router.now ≡ all_routes }
-    ensures exchanged { Exchanged (V.limits service.old) (V.seat service.old) moment.new (V.front service.old) (V.front service.new)
+    ensures exchanged { Exchanged V.helped V.tidied (V.limits service.old) (V.seat service.old) moment.new (V.front service.old) (V.front service.new)
         request.now (L.written link.old) (L.written link.new) result }
     ensures seat { V.seat service.new ≡ V.seat service.old }
     ensures limits { V.limits service.new ≡ V.limits service.old }
     ensures later { moment.old ≤ moment.new }
     ensures answered { ClockAnswers moment.old moment.new (C.greatest clock.old) (C.greatest clock.new) }
+    ensures asks { AsksOnce C.asked clock.old clock.new request.now moment.old moment.new }
     ensures last { LastGoesOn (C.last clock.old) (C.last clock.new) request.now moment.old moment.new }
     ensures fault { OnErr result (Rose (L.write_faults link.old) (L.write_faults link.new)) }
     ensures uncounted { OnOk result (L.write_faults link.new ≡ L.write_faults link.old) }
@@ -179,8 +181,8 @@ fn serve_requests<V: Service, L: Link, C: Clock>(
     link: &mut L,
     clock: &mut C,
 ) -> ConnEnd
-    ensures headline { Headline (V.limits service.old) (V.seat service.old) (V.front service.old) (V.front service.new)
-        (L.left link.old) (L.left link.new) (L.written link.old) (L.written link.new) (C.last clock.old) (C.greatest clock.old) (C.greatest clock.new) result }
+    ensures headline { Headline V.helped V.tidied (V.limits service.old) (V.seat service.old) (V.front service.old) (V.front service.new)
+        (L.left link.old) (L.left link.new) (L.written link.old) (L.written link.new) C.asked clock.old clock.new (C.last clock.old) (C.greatest clock.old) (C.greatest clock.new) result }
     ensures read_fault { result ≡ ConnEnd.ReadFault → Rose (L.read_faults link.old) (L.read_faults link.new) }
     ensures write_fault { result ≡ ConnEnd.WriteFault → Rose (L.write_faults link.old) (L.write_faults link.new) }
     ensures read_reported { L.read_faults link.old < L.read_faults link.new → result ≡ ConnEnd.ReadFault }
@@ -219,11 +221,11 @@ pub fn serve_connection<V: Service, L: Link, C: Clock>(
 ) -> ConnEnd
     // Each response is what a plain machine of one thread over lists answers at that request's place in one
     // history; so pages taken in turn are a prefix of the sorted matching documents, and all of them at the end.
-    ensures headline { Headline (V.limits service.old) (V.seat service.old) (V.front service.old) (V.front service.new)
-        (L.left link.old) (L.left link.new) (L.written link.old) (L.written link.new) (C.last clock.old) (C.greatest clock.old) (C.greatest clock.new) result }
+    ensures headline { Headline V.helped V.tidied (V.limits service.old) (V.seat service.old) (V.front service.old) (V.front service.new)
+        (L.left link.old) (L.left link.new) (L.written link.old) (L.written link.new) C.asked clock.old clock.new (C.last clock.old) (C.greatest clock.old) (C.greatest clock.new) result }
     // What is left, where it is whole requests, is answered wholly.
-    ensures complete { ServesWhole (V.limits service.old) (V.seat service.old) (V.front service.old) (V.front service.new)
-        (L.left link.old) (L.left link.new) (L.written link.old) (L.written link.new) (C.last clock.old) (C.greatest clock.old) (C.greatest clock.new)
+    ensures complete { ServesWhole V.helped V.tidied (V.limits service.old) (V.seat service.old) (V.front service.old) (V.front service.new)
+        (L.left link.old) (L.left link.new) (L.written link.old) (L.written link.new) C.asked clock.old clock.new (C.last clock.old) (C.greatest clock.old) (C.greatest clock.new)
         (L.read_faults link.old) (L.read_faults link.new) (L.write_faults link.old) (L.write_faults link.new) result }
     // Each request that searches a point in time asks for the place of each hit.
     ensures shows { PitSearchesShowPlaces }

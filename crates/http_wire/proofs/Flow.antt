@@ -10,13 +10,17 @@ use Rattle.http_wire.specs.Stream.{Buffered, HasEnded, Wrote, stream_of}
 use Rattle.http_wire.specs.Steps.{Came, CameFrom, EndedOf, IsDry, IsNothing, ReadMore}
 use Rattle.es_outside.specs.Told.{Gives, Takes}
 
-dry_is : (y : Option (List ℕ)) (after : List ℕ) → IsDry y → y ≡ Some after → after ≡ []
-dry_is None after dry e = let no : ⊥ = cc in absurd no
-dry_is (Some l) after dry e = let same : l ≡ after = cc in sym same ∙ dry
+dry_is : (y z : Option (List ℕ)) (after : List ℕ) → IsDry y z → y ≡ Some after → (after ≡ []) × (z ≡ Some [])
+dry_is None z after dry e = let no : ⊥ = cc in absurd no
+dry_is (Some l) z after dry e = let same : l ≡ after = cc in (sym same ∙ dry.0, dry.1)
 
 take_nil : (m : ℕ) → ◌≡◌ {A = List ℕ} (take m []) []
 take_nil zero = refl
 take_nil (suc m) = refl
+
+drop_nil : (m : ℕ) → ◌≡◌ {A = List ℕ} (drop m []) []
+drop_nil zero = refl
+drop_nil (suc m) = refl
 
 pub take_add : (n m : ℕ) (xs : List ℕ) → take (n + m) xs ≡ take n xs ++ take m (drop n xs)
 take_add n m xs =
@@ -59,7 +63,7 @@ ended_told : (a b : Buffered) (taken after : List ℕ) (left : Option (List ℕ)
     → b.bytes ≡ a.bytes ++ taken → b.room + length taken ≡ a.room → HasEnded b after left end → HasEnded a (taken ++ after) left end
 ended_told a b taken after left Truncated e r h =
     let all : b.bytes ++ after ≡ a.bytes ++ (taken ++ after) = ap (λ (l : List ℕ). l ++ after) e ∙ append_assoc a.bytes taken after in
-    (omega (arith, h.0, r, length-append taken after), (λ z. h.1 (all ∙ z)), subst IsUnfinished all h.2)
+    (omega (arith, h.0, r, length-append taken after), (λ z. h.1 (all ∙ z)), subst IsUnfinished all h.2, h.3)
 ended_told a b taken after left NotBuilt e r h = subst IsRefused (stream_same a b taken after e r) h
 ended_told a b taken after left TooMuch e r h =
     (omega (arith, h.0, r, length-append taken after), subst HasNoRequest (stream_same a b taken after e r) h.1)
@@ -99,27 +103,27 @@ ended_by_much held (Some before) left room count e some gives h =
     let same : stream_of held before ≡ held.bytes = ap (λ (l : List ℕ). held.bytes ++ l) none ∙ append-nil held.bytes in
     (omega (arith, e, some, gives.enough), subst HasNoRequest (sym same) h)
 
-pub ended_by_end : (held : Buffered) (before left : Option (List ℕ)) → IsDry before → held.bytes ≢ [] → IsUnfinished held.bytes → EndedOf held before left Truncated
+pub ended_by_end : (held : Buffered) (before left : Option (List ℕ)) → IsDry before left → held.bytes ≢ [] → IsUnfinished held.bytes → EndedOf held before left Truncated
 ended_by_end held None left dry some h = tt
 ended_by_end held (Some before) left dry some h =
-    let same : held.bytes ++ before ≡ held.bytes = ap (λ (l : List ℕ). held.bytes ++ l) dry ∙ append-nil held.bytes in
-    let none : length before ≡ 0 = ap length dry in
-    (omega (arith, none), (λ z. some (sym same ∙ z)), subst IsUnfinished (sym same) h)
+    let same : held.bytes ++ before ≡ held.bytes = ap (λ (l : List ℕ). held.bytes ++ l) dry.0 ∙ append-nil held.bytes in
+    let none : length before ≡ 0 = ap length dry.0 in
+    (omega (arith, none), (λ z. some (sym same ∙ z)), subst IsUnfinished (sym same) h, dry.1)
 
 pub ended_refused : (held : Buffered) (before left : Option (List ℕ)) → ((more : List ℕ) → IsRefused (held.bytes ++ more)) → EndedOf held before left NotBuilt
 ended_refused held None left h = tt
 ended_refused held (Some before) left h = h (take held.room before)
 
 -- nothing was held or left
-pub nothing : (old now : Buffered) (x y : Option (List ℕ)) → Came old now x y → IsDry y → now.bytes ≡ [] → IsNothing old x
-nothing old now None y c dry none = tt
-nothing old now (Some before) y c dry none =
+pub nothing : (old now : Buffered) (x y z : Option (List ℕ)) → Came old now x y → IsDry y z → now.bytes ≡ [] → IsNothing old x z
+nothing old now None y z c dry none = tt
+nothing old now (Some before) y z c dry none =
     let both : old.bytes ++ c.taken ≡ [] = sym c.bytes ∙ none in
     let long : length old.bytes + length c.taken ≡ 0 = sym (length-append old.bytes c.taken) ∙ ap length both in
-    let left : c.told.0 ≡ [] = dry_is y c.told.0 dry c.told.2 in
+    let left = dry_is y z c.told.0 dry c.told.2 in
     let all : length before ≡ length c.taken + length c.told.0 = ap length c.told.1 ∙ length-append c.taken c.told.0 in
-    let zero : length c.told.0 ≡ 0 = ap length left in
-    (nil_from_length old.bytes (omega (arith, long)), nil_from_length before (omega (arith, all, zero, long)))
+    let zero : length c.told.0 ≡ 0 = ap length left.0 in
+    (nil_from_length old.bytes (omega (arith, long)), nil_from_length before (omega (arith, all, zero, long)), left.1)
 
 -- a part of a list, where a first piece is let go
 pub advance_bytes : (bytes : List ℕ) (start end count : ℕ) → start + count ≤ end
@@ -150,9 +154,11 @@ told_from None left room count g = tt
 told_from (Some before) left room count g =
     (drop count before, sym (take-append-drop count before) ∙ ap (λ (l : List ℕ). l ++ drop count before) (sym g.same), g.left)
 
-dry_from : (before left : Option (List ℕ)) (room : List ℕ) (count : ℕ) → count ≡ 0 → Gives before left room count → IsDry before
+dry_from : (before left : Option (List ℕ)) (room : List ℕ) (count : ℕ) → count ≡ 0 → Gives before left room count → IsDry before left
 dry_from None left room count z g = tt
-dry_from (Some before) left room count z g = g.end z
+dry_from (Some before) left room count z g =
+    let none : before ≡ [] = g.end z in
+    (none, g.left ∙ ap Some (ap (λ (l : List ℕ). drop count l) none ∙ drop_nil count))
 
 -- what a read of that many bytes gives
 pub read_ok : (old new : Buffered) (before left : Option (List ℕ)) (room : List ℕ) (count : ℕ) → new.bytes ≡ old.bytes ++ take count room

@@ -18,10 +18,10 @@ pub record Came (old new : Buffered) (before left : Option (List ℕ)) : Type 0 
   pub room : new.room + length taken ≡ old.room
   pub told : CameFrom before left taken
 
--- nothing was left
-abbrev pub IsDry : Option (List ℕ) → Type 0
-IsDry None = Unit {0}
-IsDry (Some before) = before ≡ []
+-- nothing was left, and nothing is
+abbrev pub IsDry : Option (List ℕ) → Option (List ℕ) → Type 0
+IsDry None left = Unit {0}
+IsDry (Some before) left = (before ≡ []) × (left ≡ Some [])
 
 -- the end has this cause
 abbrev pub EndedOf : Buffered → Option (List ℕ) → Option (List ℕ) → WireEnd → Type 0
@@ -31,7 +31,7 @@ EndedOf old (Some before) left end = HasEnded old before left end
 -- a read gave more bytes, or the input had ended, or a call ends here if what is held is no request
 abbrev pub ReadMore : Buffered → Buffered → Option (List ℕ) → Option (List ℕ) → Result Bool WireEnd → Type 0
 ReadMore old new before left (Ok true) = Came old new before left × (new.room < old.room)
-ReadMore old new before left (Ok false) = IsDry before
+ReadMore old new before left (Ok false) = IsDry before left
 ReadMore old new before left (Err end) = HasNoRequest old.bytes → EndedOf old before left end
 
 -- the same where no byte may be taken
@@ -39,14 +39,14 @@ abbrev pub Probed : Option (List ℕ) → Option (List ℕ) → Result Bool Wire
 Probed before left result =
     (old : Buffered) → old.room ≡ 0 → ReadMore old old before left result
 
--- neither a byte was held, nor any was left
-abbrev pub IsNothing : Buffered → Option (List ℕ) → Type 0
-IsNothing old None = Unit {0}
-IsNothing old (Some before) = (old.bytes ≡ []) × (before ≡ [])
+-- neither a byte was held, nor any was left, nor is
+abbrev pub IsNothing : Buffered → Option (List ℕ) → Option (List ℕ) → Type 0
+IsNothing old None left = Unit {0}
+IsNothing old (Some before) left = (old.bytes ≡ []) × (before ≡ []) × (left ≡ Some [])
 
 -- a head of that length has come, whatever it says
 abbrev pub HeadCame : Buffered → Buffered → Option (List ℕ) → Option (List ℕ) → Result (Option ℕ) WireEnd → Type 0
-HeadCame old new before left (Ok None) = IsNothing old before
+HeadCame old new before left (Ok None) = IsNothing old before left
 HeadCame old new before left (Ok (Some n)) = Came old new before left × (head_len (take HEAD_BYTES new.bytes) ≡ Some n)
 HeadCame old new before left (Err end) = EndedOf old before left end
 

@@ -30,8 +30,9 @@ pub record Gave (old new : Buffered) (before : List ℕ) (left : Option (List �
 
 -- why a call gave no request
 abbrev pub HasEnded : Buffered → List ℕ → Option (List ℕ) → WireEnd → Type 0
--- the input ended inside a request
-HasEnded old before left Truncated = (length before ≤ old.room) × (old.bytes ++ before ≢ []) × IsUnfinished (old.bytes ++ before)
+-- the input ended inside a request, and nothing is left
+HasEnded old before left Truncated =
+    (length before ≤ old.room) × (old.bytes ++ before ≢ []) × IsUnfinished (old.bytes ++ before) × (left ≡ Some [])
 -- the bytes begin with a head that is not taken
 HasEnded old before left NotBuilt = IsRefused (stream_of old before)
 -- a further byte is there, and may not be taken
@@ -42,7 +43,7 @@ HasEnded old before left NoMemory = Unit {0}
 
 -- what a call gave, where the link tells the bytes that it had left
 abbrev pub Next : Buffered → Buffered → List ℕ → Option (List ℕ) → Result (Option Request) WireEnd → Type 0
-Next old new before left (Ok None) = (old.bytes ≡ []) × (before ≡ [])
+Next old new before left (Ok None) = (old.bytes ≡ []) × (before ≡ []) × (left ≡ Some [])
 Next old new before left (Ok (Some request)) = Gave old new before left request
 Next old new before left (Err end) = HasEnded old before left end
 

@@ -11,6 +11,10 @@ use Rattle.list_machine.specs.Rows.{Shard}
 use Rattle.list_machine.specs.State.{State, Index}
 use Rattle.list_machine.specs.Run.{History, reply_of, Occurs, IsBounded, PutsObject}
 
+-- what a call says of its moment and of the history before and after it
+abbrev pub Call : Type 1
+Call = ℕ → History → History → Type 0
+
 -- by which number a seat asks, and by which it does what nobody asked it for
 abbrev pub asking : ℕ → ℕ
 asking seat = 2 * seat

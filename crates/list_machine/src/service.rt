@@ -20,6 +20,13 @@ pub trait Service {
 
     ghost limits: { Self → Limits };
 
+    /// What a call of `help` says of its moment and of the history before and after it. Nothing but a call gives
+    /// this, so who states it has called `help`.
+    ghost helped: { ℕ → List Entry → List Entry → Type 0 };
+
+    /// The same of a call of `tidy`.
+    ghost tidied: { ℕ → List Entry → List Entry → Type 0 };
+
     /// Asks for an event. `Spent` says that the history is full and nothing was asked. After `NoMemory` the event
     /// was asked or not.
     fn ask(&mut self, event: Event, moment: Moment) -> Result<Reply, NoMemory>
@@ -33,7 +40,8 @@ pub trait Service {
 
     /// Finishes one waiting shard of a task, and says whether there was one. There are no tasks yet.
     fn help(&mut self, moment: Moment) -> Result<bool, NoMemory>
-        ensures helped { IfOk result IsFalse }
+        ensures none { IfOk result IsFalse }
+        ensures called { helped moment (front self.old) (front self.new) }
         ensures beside { GrowsBeside (seat self.old) 4 moment (front self.old) (front self.new) }
         ensures seat { seat self.new ≡ seat self.old }
         ensures limits { limits self.new ≡ limits self.old }
@@ -41,6 +49,7 @@ pub trait Service {
 
     /// Puts the state in order, as far as no search can see it.
     fn tidy(&mut self, moment: Moment) -> Result<(), NoMemory>
+        ensures called { tidied moment (front self.old) (front self.new) }
         ensures beside { GrowsBeside (seat self.old) (4 + 2 * applied (state_of (limits self.old) (front self.old))) moment
             (front self.old) (front self.new) }
         ensures seat { seat self.new ≡ seat self.old }

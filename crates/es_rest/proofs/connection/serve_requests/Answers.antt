@@ -14,7 +14,7 @@ requests-init g c =
     let clock = g.C.Clock in
     let service = c.args.service.now in
     record {
-      progress = starts (s.limits service) (s.seat service) (s.front service) (link.left c.args.link.now) (link.written c.args.link.now) (clock.last c.args.clock.now) (clock.greatest c.args.clock.now)
+      progress = starts s.helped s.tidied (s.limits service) (s.seat service) (s.front service) (link.left c.args.link.now) (link.written c.args.link.now) clock.asked c.args.clock.now (clock.last c.args.clock.now) (clock.greatest c.args.clock.now)
           c.zero-moment.result c.in-Ok.parts.1 c.zero-moment.ensures c.in-Ok.ensures.buf;
       seat = refl;
       limits = refl;
@@ -42,22 +42,22 @@ returns-in-Err-clause-headline g c =
     let first = s.front c.args.service.now in
     let left = link.left c.args.link.now in
     let held : Buffered = record { bytes = []; room = CONNECTION_BYTES } in
-    let p = starts limits (s.seat c.args.service.now) first left (link.written c.args.link.now) (g.C.Clock.last c.args.clock.now) (g.C.Clock.greatest c.args.clock.now) 0 held refl refl in
+    let p = starts s.helped s.tidied limits (s.seat c.args.service.now) first left (link.written c.args.link.now) g.C.Clock.asked c.args.clock.now (g.C.Clock.last c.args.clock.now) (g.C.Clock.greatest c.args.clock.now) 0 held refl refl in
     closed left (link.left c.close.new.link) held p refl (next_wants left left held held) c.close.ensures.left c.close.ensures.closed (c.pages_in_turn.ensures limits first)
 
 pub returns-in-Err-exchange-clause-headline : goal.returns-in-Err-exchange-clause-headline
 returns-in-Err-exchange-clause-headline g c =
     let of = c.in-Err-exchange.ensures in
-    failed _ _ _ _ c.next_request.new.buf c.requests.invariant.progress c.in-Ok-Some.ensures.written (rw c.in-Ok-Some.field-0-is at c.in-Ok-Some.ensures.next) of.left
-    c.requests.invariant.limits c.requests.invariant.seat of.exchanged of.later of.answered of.last
+    failed _ _ _ _ _ c.next_request.new.buf c.requests.invariant.progress c.in-Ok-Some.ensures.written (rw c.in-Ok-Some.field-0-is at c.in-Ok-Some.ensures.next) of.left
+    c.requests.invariant.limits c.requests.invariant.seat of.exchanged of.later of.answered of.last of.asks
     (c.pages_in_turn.ensures (g.V.Service.limits c.args.service.now) (g.V.Service.front c.exchange.new.service))
 
 pub requests-preserved : goal.requests-preserved
 requests-preserved g c =
     let of = c.in-Ok-exchange.ensures in
     record {
-      progress = goes_on _ _ _ _ c.next_request.new.buf c.requests.invariant.progress c.in-Ok-Some.ensures.written (rw c.in-Ok-Some.field-0-is at c.in-Ok-Some.ensures.next) of.left
-          c.requests.invariant.limits c.requests.invariant.seat of.exchanged of.later of.answered of.last;
+      progress = goes_on _ _ _ _ _ c.next_request.new.buf c.requests.invariant.progress c.in-Ok-Some.ensures.written (rw c.in-Ok-Some.field-0-is at c.in-Ok-Some.ensures.next) of.left
+          c.requests.invariant.limits c.requests.invariant.seat of.exchanged of.later of.answered of.last of.asks;
       seat = of.seat ∙ c.requests.invariant.seat;
       limits = of.limits ∙ c.requests.invariant.limits;
       read_faults = of.read_faults ∙ (unchanged _ _ c.in-Ok-Some.ensures.count (λ h. let no : ⊥ = cc (c.in-Ok-Some.ensures.reported h) in no) ∙ c.requests.invariant.read_faults);

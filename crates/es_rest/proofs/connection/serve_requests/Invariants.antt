@@ -10,8 +10,8 @@ invariant-requests g l =
     let link = g.L.Link in
     let clock = g.C.Clock in
     record {
-      progress : Progress (service.limits l.fn.service) (service.seat l.fn.service) (service.front l.fn.service) (service.front l.service)
-          (link.left l.fn.link) (link.left l.link) (link.written l.fn.link) (link.written l.link) (clock.last l.fn.clock) (clock.last l.clock) (clock.greatest l.fn.clock) (clock.greatest l.clock) l.moment l.buf;
+      progress : Progress service.helped service.tidied (service.limits l.fn.service) (service.seat l.fn.service) (service.front l.fn.service) (service.front l.service)
+          (link.left l.fn.link) (link.left l.link) (link.written l.fn.link) (link.written l.link) clock.asked l.fn.clock l.clock (clock.last l.fn.clock) (clock.last l.clock) (clock.greatest l.fn.clock) (clock.greatest l.clock) l.moment l.buf;
       seat : service.seat l.service ≡ service.seat l.fn.service;
       limits : service.limits l.service ≡ service.limits l.fn.service;
       read_faults : link.read_faults l.link ≡ link.read_faults l.fn.link;

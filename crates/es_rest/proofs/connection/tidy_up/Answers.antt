@@ -9,6 +9,6 @@ returns-then-not-written-clause-tended g c = rw c.if-not-written.true refl
 pub returns-clause-tended : goal.returns-clause-tended
 returns-clause-tended g c =
     let s = g.V.Service in
-    tended_by (s.limits c.args.service.now) (s.limits c.help.new.self) (s.seat c.args.service.now) (s.seat c.help.new.self) c.args.moment c.args.written
+    tended_by s.helped s.tidied (s.limits c.args.service.now) (s.limits c.help.new.self) (s.seat c.args.service.now) (s.seat c.help.new.self) c.args.moment c.args.written
     (s.front c.args.service.now) (s.front c.help.new.self) (s.front c.tidy.new.self) c.if-not-written.false
-    c.help.ensures.limits c.help.ensures.seat c.help.ensures.beside c.tidy.ensures.beside
+    c.help.ensures.limits c.help.ensures.seat c.help.ensures.called c.help.ensures.beside c.tidy.ensures.called c.tidy.ensures.beside

@@ -1,7 +1,7 @@
 -- A Quiet more, or none.
 use Rattle.std.proofs.Common.{arith}
 use Rattle.es_node.specs.Solo.{IsRunning}
-use Rattle.es_node.proofs.Journals.{reaps, rests_on}
+use Rattle.es_node.proofs.Journals.{reaps, rests_on, rests_once}
 use Rattle.es_node.proofs.solo.SoloService.tidy.Goals as goal
 
 pub invariant_of-self : goal.invariant_of-self
@@ -11,6 +11,12 @@ invariant_of-self c =
     rests_on s.limits c.args.moment s.core c.reap.new.core s.journal.items c.reap.new.journal.items c.reap.result c.self.invariant
     (omega (arith, c.if-len-self.false, c.len.ensures))
     of.rests of.journal of.core_kept of.journal_kept
+
+pub returns-clause-called : goal.returns-clause-called
+returns-clause-called c =
+    let s = c.self.inside in
+    let of = c.reap.ensures in
+    rw (← c.self.view_is) (rests_once c.args.moment s.journal.items c.reap.new.journal.items c.reap.result of.journal of.journal_kept)
 
 pub returns-clause-kept : goal.returns-clause-kept
 returns-clause-kept c =
