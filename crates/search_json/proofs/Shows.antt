@@ -17,7 +17,7 @@ use Rattle.search_json.specs.declared.search.SearchBody.{SearchBody}
 use Rattle.search_json.specs.declared.search.Span.{Span}
 use Rattle.search_json.specs.declared.sort.NamedKey.{NamedKey}
 use Rattle.search_json.specs.Pits.{id_told, pit_of}
-use Rattle.search_json.specs.Searches.{ShowsInPit, asked, asked_of, body_with, broken, has_form, judged, judged_limits, request_of, search_of, span_in}
+use Rattle.search_json.specs.Searches.{ShowsInPit, asked_of, body_with, first_broken, has_form, of_form, of_parts, request_of, search_of, span_in, unless_broken}
 use Rattle.search_json.specs.Sorts.{sort_of}
 
 -- whatever has its form, or hasn't
@@ -32,32 +32,32 @@ named_shows request keep (Err fault) shows = tt
 
 -- a limit is broken, or none
 limits_show : (told : Option LimitName) (batch : ℕ) (span : Span) (keys : List NamedKey) (query : Query) (named : Option Named)
-    → IfOk (judged_limits told (request_of (is_some named) batch span keys query) named) ShowsInPit
+    → IfOk (unless_broken told (request_of (is_some named) batch span keys query) named) ShowsInPit
 limits_show (Some name) batch span keys query named = tt
 limits_show None batch span keys query None = tt
 limits_show None batch span keys query (Some named) = named_shows (request_of true batch span keys query) named.keep (id_told named.id) refl
 
 -- its parts
-asked_shows : (has_index : Bool) (named : Option Named) (batch : ℕ) (value : Data) → IfOk (asked has_index named batch value) ShowsInPit
-unfolding asked
-asked_shows has_index named batch value =
+of_parts_shows : (has_index : Bool) (named : Option Named) (batch : ℕ) (value : Data) → IfOk (of_parts has_index named batch value) ShowsInPit
+unfolding of_parts
+of_parts_shows has_index named batch value =
     form_shows (span_in value) _ (λ span. form_shows (sort_of value) _ (λ keys. form_shows (asked_of value) _ (λ query.
-    limits_show (broken has_index named span keys) batch span keys query named)))
+    limits_show (first_broken has_index named span keys) batch span keys query named)))
 
 -- its form
-formed_shows : (form : Bool) (has_index : Bool) (batch : ℕ) (value : Data)
-    → IfOk (if form then form_then (pit_of value) (λ named. asked has_index named batch value) else Err Shape) ShowsInPit
-formed_shows true has_index batch value = form_shows (pit_of value) _ (λ named. asked_shows has_index named batch value)
-formed_shows false has_index batch value = tt
+in_form_shows : (form : Bool) (has_index : Bool) (batch : ℕ) (value : Data)
+    → IfOk (if form then form_then (pit_of value) (λ named. of_parts has_index named batch value) else Err Shape) ShowsInPit
+in_form_shows true has_index batch value = form_shows (pit_of value) _ (λ named. of_parts_shows has_index named batch value)
+in_form_shows false has_index batch value = tt
 
-judged_shows : (has_index : Bool) (batch : ℕ) (value : Data) → IfOk (judged has_index batch value) ShowsInPit
-unfolding judged
-judged_shows has_index batch value = formed_shows (has_form value) has_index batch value
+of_form_shows : (has_index : Bool) (batch : ℕ) (value : Data) → IfOk (of_form has_index batch value) ShowsInPit
+unfolding of_form
+of_form_shows has_index batch value = in_form_shows (has_form value) has_index batch value
 
 -- and its bytes are JSON
-read_shows : (read : Option Data) (has_index : Bool) (batch : ℕ) → IfOk (json_then read (λ value. judged has_index batch value)) ShowsInPit
+read_shows : (read : Option Data) (has_index : Bool) (batch : ℕ) → IfOk (json_then read (λ value. of_form has_index batch value)) ShowsInPit
 read_shows None has_index batch = tt
-read_shows (Some value) has_index batch = judged_shows has_index batch value
+read_shows (Some value) has_index batch = of_form_shows has_index batch value
 
 pub search_shows : (has_index : Bool) (batch : ℕ) (body : List ℕ) → IfOk (search_of has_index batch body) ShowsInPit
 unfolding search_of

@@ -11,8 +11,8 @@ use Rattle.search_json.specs.declared.names.Clause.{Clause}
 use Rattle.search_json.specs.declared.names.Clause.TheVariants.{MinimumShouldMatch, Queries}
 use Rattle.search_json.specs.declared.names.Kind.{Kind}
 use Rattle.search_json.specs.declared.names.Kind.TheVariants as kind
-use Rattle.search_json.specs.declared.names.Place.{Place}
-use Rattle.search_json.specs.declared.names.Place.TheVariants.{Filter, Must, MustNot, Should}
+use Rattle.search_json.specs.declared.names.Occur.{Occur}
+use Rattle.search_json.specs.declared.names.Occur.TheVariants.{Filter, Must, MustNot, Should}
 use Rattle.search_json.specs.Values.{range_of, small_of, term_of}
 
 -- ---- names
@@ -39,7 +39,7 @@ clause_of name =
 abbrev pub no_clauses : clauses.Bool
 no_clauses = record { must = []; filter = []; must_not = []; should = []; need = Usual }
 
-abbrev pub placed : Place → clauses.Bool → List Query → clauses.Bool
+abbrev pub placed : Occur → clauses.Bool → List Query → clauses.Bool
 placed Must found queries = record { must = queries; filter = found.filter; must_not = found.must_not; should = found.should; need = found.need }
 placed Filter found queries = record { must = found.must; filter = queries; must_not = found.must_not; should = found.should; need = found.need }
 placed MustNot found queries = record { must = found.must; filter = found.filter; must_not = queries; should = found.should; need = found.need }
@@ -49,10 +49,10 @@ abbrev pub with_need : clauses.Bool → ℕ → clauses.Bool
 with_need found least =
     record { must = found.must; filter = found.filter; must_not = found.must_not; should = found.should; need = AtLeast least }
 
--- the clauses that were found, and one more: queries at their place, or how many of `should` have to match
+-- the clauses that were found, and one more: queries in their clause, or how many of `should` have to match
 abbrev pub with_clause : Option Clause → Data → Option (List Query) → clauses.Bool → Option clauses.Bool
 with_clause None value queries found = None
-with_clause (Some (Queries place)) value queries found = option_map (placed place found) queries
+with_clause (Some (Queries occur)) value queries found = option_map (placed occur found) queries
 with_clause (Some MinimumShouldMatch) value queries found = option_map (with_need found) (small_of value)
 
 -- ---- queries

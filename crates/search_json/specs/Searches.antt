@@ -73,8 +73,8 @@ span_of from size slice after = record { from = from; size = size; after = after
 -- The first limit that is broken: a point in time can be kept so long, either the path names an index or the body a point in time, a
 -- slice is one of a point in time, hits are left out only where no values are given to go on after, at most 10,000 hits are left
 -- out and wanted together, there can be such a slice, and then the keys of the sort.
-abbrev pub broken : Bool → Option Named → Span → List NamedKey → Option LimitName
-broken has_index named span keys =
+abbrev pub first_broken : Bool → Option Named → Span → List NamedKey → Option LimitName
+first_broken has_index named span keys =
     if breaks_keep named then Some KeepAlive
     else (if (if has_index then is_some named else not (is_some named)) || (is_some span.slice && not (is_some named)) then Some Pit
     else (if is_some span.after && nat_lt 0 span.from then Some From
@@ -107,12 +107,12 @@ abbrev pub body_of : SearchRequest → Option Named → Result SearchBody BodyFa
 body_of request None = Ok (record { request = request; pit = None })
 body_of request (Some named) = body_with request named.keep (id_told named.id)
 
-abbrev pub judged_limits : Option LimitName → SearchRequest → Option Named → Result SearchBody BodyFault
-judged_limits (Some name) request named = Err (Limit name)
-judged_limits None request named = body_of request named
+abbrev pub unless_broken : Option LimitName → SearchRequest → Option Named → Result SearchBody BodyFault
+unless_broken (Some name) request named = Err (Limit name)
+unless_broken None request named = body_of request named
 
-abbrev pub limited : Bool → Option Named → ℕ → Span → List NamedKey → Query → Result SearchBody BodyFault
-limited has_index named batch span keys query = judged_limits (broken has_index named span keys) (request_of (is_some named) batch span keys query) named
+abbrev pub within_limits : Bool → Option Named → ℕ → Span → List NamedKey → Query → Result SearchBody BodyFault
+within_limits has_index named batch span keys query = unless_broken (first_broken has_index named span keys) (request_of (is_some named) batch span keys query) named
 
 -- these of a body
 unfoldable pub span_in : Data → Option Span
@@ -120,18 +120,18 @@ span_in value =
     option_and_then (λ from. option_and_then (λ size. option_and_then (λ slice. option_map (span_of from size slice) (after_of value))
     (slice_of value)) (size_of value)) (from_of value)
 
-unfoldable pub asked : Bool → Option Named → ℕ → Data → Result SearchBody BodyFault
-asked has_index named batch value =
+unfoldable pub of_parts : Bool → Option Named → ℕ → Data → Result SearchBody BodyFault
+of_parts has_index named batch value =
     form_then (span_in value) (λ span. form_then (sort_of value) (λ keys. form_then (asked_of value) (λ query.
-    limited has_index named batch span keys query)))
+    within_limits has_index named batch span keys query)))
 
-unfoldable pub judged : Bool → ℕ → Data → Result SearchBody BodyFault
-judged has_index batch value =
-    if has_form value then form_then (pit_of value) (λ named. asked has_index named batch value) else Err Shape
+unfoldable pub of_form : Bool → ℕ → Data → Result SearchBody BodyFault
+of_form has_index batch value =
+    if has_form value then form_then (pit_of value) (λ named. of_parts has_index named batch value) else Err Shape
 
 -- what a body asks for where the path names an index or doesn't, and so many shards make a batch. An empty body counts as `{}`.
 unfoldable pub search_of : Bool → ℕ → List ℕ → Result SearchBody BodyFault
-search_of has_index batch body = json_then (data_of (filled body)) (λ value. judged has_index batch value)
+search_of has_index batch body = json_then (data_of (filled body)) (λ value. of_form has_index batch value)
 
 -- a search of a point in time shows the place of each hit
 abbrev pub ShowsInPit : SearchBody → Type 0

@@ -15,9 +15,9 @@ pub(crate) enum Kind {
     Bool,
 }
 
-/// Where the queries of a bool query stand.
+/// The clause of a bool query that queries stand in.
 #[derive(Clone, Copy)]
-pub(crate) enum Place {
+pub(crate) enum Occur {
     Must,
     Filter,
     MustNot,
@@ -27,7 +27,7 @@ pub(crate) enum Place {
 /// The clauses of a bool query.
 #[derive(Clone, Copy)]
 pub(crate) enum Clause {
-    Queries(Place),
+    Queries(Occur),
     MinimumShouldMatch,
 }
 
@@ -56,16 +56,16 @@ pub(crate) fn clause_of(name: &str) -> Option<Clause>
     ensures { result ≡ clause_of name.now }
 {
     if name == "must" {
-        return Some(Clause::Queries(Place::Must));
+        return Some(Clause::Queries(Occur::Must));
     }
     if name == "filter" {
-        return Some(Clause::Queries(Place::Filter));
+        return Some(Clause::Queries(Occur::Filter));
     }
     if name == "must_not" {
-        return Some(Clause::Queries(Place::MustNot));
+        return Some(Clause::Queries(Occur::MustNot));
     }
     if name == "should" {
-        return Some(Clause::Queries(Place::Should));
+        return Some(Clause::Queries(Occur::Should));
     }
     if name == "minimum_should_match" {
         return Some(Clause::MinimumShouldMatch);

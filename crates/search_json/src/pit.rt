@@ -43,12 +43,9 @@ fn keep_in(value: &Value) -> Option<Keep>
     ensures { result ≡ keep_in (view value.now) }
 {
     match value.get("keep_alive") {
-        Some(keep) => match keep.as_str() {
-            Some(text) => match context_keep(text) {
-                Some(keep) => Some(Keep::For(keep)),
-                None => Some(Keep::Broken),
-            },
-            None => None,
+        Some(keep) => match context_keep(keep.as_str()?) {
+            Some(keep) => Some(Keep::For(keep)),
+            None => Some(Keep::Broken),
         },
         None => Some(Keep::NotAsked),
     }
@@ -59,10 +56,7 @@ fn keep_in(value: &Value) -> Option<Keep>
 fn text_in<'a>(name: &str, value: &'a Value) -> Option<&'a str>
     ensures { option_map (λ text. text.now) result ≡ text_in name.now (view value.now) }
 {
-    match value.get(name) {
-        Some(text) => text.as_str(),
-        None => None,
-    }
+    value.get(name)?.as_str()
 }
 
 fn id_of(text: &str) -> Option<ContextId>
@@ -92,10 +86,7 @@ pub(crate) fn pit_of(value: &Value) -> Option<Option<Named>>
     ensures { result ≡ pit_of (view value.now) }
 {
     match value.get("pit") {
-        Some(pit) => match pit_in(pit) {
-            Some(named) => Some(Some(named)),
-            None => None,
-        },
+        Some(pit) => Some(Some(pit_in(pit)?)),
         None => Some(None),
     }
 }

@@ -4,7 +4,7 @@ ghost use Rattle.serde_json.specs.View.{items_view, members_view, view};
 ghost use Rattle.search_json.specs.Queries.{bool_of, clause_of, clauses_in, if_empty, no_clauses, placed, queries_in, queries_of, query_by, query_of, with_clause, with_need};
 ghost use Rattle.search_json.specs.Values.{small_of};
 
-use crate::names::{Clause, Kind, Place, clause_of, kind_of};
+use crate::names::{Clause, Kind, Occur, clause_of, kind_of};
 use crate::value::{only_of, range_of, small_of, term_of};
 use doc_json::is_form;
 use es_query::{Bool, Need, Query};
@@ -77,8 +77,8 @@ fn with_clause(
     match clause_of(name) {
         None => Ok(None),
         Some(Clause::MinimumShouldMatch) => Ok(with_minimum(found, small_of(value))),
-        Some(Clause::Queries(place)) => match queries_of(alloc, value)? {
-            Some(queries) => Ok(Some(placed(place, found, Items::of(queries)))),
+        Some(Clause::Queries(occur)) => match queries_of(alloc, value)? {
+            Some(queries) => Ok(Some(placed(occur, found, Items::of(queries)))),
             None => Ok(None),
         },
     }
@@ -125,15 +125,15 @@ fn no_clauses(alloc: Global) -> Bool
     }
 }
 
-fn placed(place: Place, found: Bool, queries: Items<Query>) -> Bool
-    ensures { result ≡ placed place found queries }
+fn placed(occur: Occur, found: Bool, queries: Items<Query>) -> Bool
+    ensures { result ≡ placed occur found queries }
 {
     let mut clauses = found;
-    match place {
-        Place::Must => clauses.must = queries,
-        Place::Filter => clauses.filter = queries,
-        Place::MustNot => clauses.must_not = queries,
-        Place::Should => clauses.should = queries,
+    match occur {
+        Occur::Must => clauses.must = queries,
+        Occur::Filter => clauses.filter = queries,
+        Occur::MustNot => clauses.must_not = queries,
+        Occur::Should => clauses.should = queries,
     }
     clauses
 }

@@ -5,7 +5,7 @@ ghost use Rattle.serde_json.specs.View.{view};
 ghost use Rattle.es_types.specs.Fail.{Answers};
 ghost use Rattle.slice_rule.specs.Parts.{IsSlice};
 ghost use Rattle.list_machine.specs.Run.{IsWithinLimits};
-ghost use Rattle.search_json.specs.Searches.{asked, asked_of, body_of, broken, count_in, from_of, has_form, has_track_form, judged, limited, search_of, size_of, span_in};
+ghost use Rattle.search_json.specs.Searches.{asked_of, body_of, count_in, first_broken, from_of, has_form, has_track_form, of_form, of_parts, search_of, size_of, span_in, within_limits};
 
 use crate::after::after_of;
 use crate::pit::{Named, asked_keep, breaks_keep, id_told, pit_of};
@@ -65,11 +65,11 @@ pub fn read_search(
     let Some(value) = read_data(alloc, filled(body))? else {
         return Err(Fail::Is(BodyFault::NotJson));
     };
-    judged(alloc, has_index, batch, &value)
+    of_form(alloc, has_index, batch, &value)
 }
 
-#[tactic(auto, unfolding(crate::specs::Searches::judged))]
-fn judged(
+#[tactic(auto, unfolding(crate::specs::Searches::of_form))]
+fn of_form(
     alloc: Global,
     has_index: bool,
     batch: u32,
@@ -77,7 +77,7 @@ fn judged(
 ) -> Result<SearchBody, Fail<BodyFault>>
     requires batch_least { 2 ≤ batch }
     requires batch_most { batch ≤ MOST_BATCH }
-    ensures judged { Answers result (judged has_index batch (view value.now)) }
+    ensures is { Answers result (of_form has_index batch (view value.now)) }
     ensures within { IfOk result (λ it. IsWithinLimits it.request) }
 {
     if !has_form(value) {
@@ -86,11 +86,11 @@ fn judged(
     let Some(named) = pit_of(value) else {
         return Err(Fail::Is(BodyFault::Shape));
     };
-    asked(alloc, has_index, named, batch, value)
+    of_parts(alloc, has_index, named, batch, value)
 }
 
-#[tactic(auto, unfolding(crate::specs::Searches::asked))]
-fn asked(
+#[tactic(auto, unfolding(crate::specs::Searches::of_parts))]
+fn of_parts(
     alloc: Global,
     has_index: bool,
     named: Option<Named>,
@@ -99,7 +99,7 @@ fn asked(
 ) -> Result<SearchBody, Fail<BodyFault>>
     requires batch_least { 2 ≤ batch }
     requires batch_most { batch ≤ MOST_BATCH }
-    ensures asked { Answers result (asked has_index named batch (view value.now)) }
+    ensures is { Answers result (of_parts has_index named batch (view value.now)) }
     ensures within { IfOk result (λ it. IsWithinLimits it.request) }
 {
     let Some(span) = span_in(alloc, value)? else {
@@ -111,11 +111,11 @@ fn asked(
     let Some(query) = asked_of(alloc, value)? else {
         return Err(Fail::Is(BodyFault::Shape));
     };
-    limited(alloc, has_index, named, batch, span, keys, query)
+    within_limits(alloc, has_index, named, batch, span, keys, query)
 }
 
 // What is asked for, where it breaks no limit.
-fn limited(
+fn within_limits(
     alloc: Global,
     has_index: bool,
     named: Option<Named>,
@@ -126,10 +126,10 @@ fn limited(
 ) -> Result<SearchBody, Fail<BodyFault>>
     requires batch_least { 2 ≤ batch }
     requires batch_most { batch ≤ MOST_BATCH }
-    ensures limited { Answers result (limited has_index named batch span keys.items query) }
+    ensures is { Answers result (within_limits has_index named batch span keys.items query) }
     ensures within { IfOk result (λ it. IsWithinLimits it.request) }
 {
-    if let Some(name) = broken(has_index, named, &span, &keys) {
+    if let Some(name) = first_broken(has_index, named, &span, &keys) {
         return Err(Fail::Is(BodyFault::Limit(name)));
     }
     let Span {
@@ -178,13 +178,13 @@ fn body_of(request: SearchRequest, named: Option<Named>) -> Result<SearchBody, B
 }
 
 // The first limit that is broken.
-fn broken(
+fn first_broken(
     has_index: bool,
     named: Option<Named>,
     span: &Span,
     keys: &[NamedKey],
 ) -> Option<LimitName>
-    ensures first { result ≡ broken has_index named span.now keys.now }
+    ensures first { result ≡ first_broken has_index named span.now keys.now }
     ensures window { IfNone result (span.now.from + span.now.size ≤ WINDOW) }
     ensures slice { IfNone result (IfSome span.now.slice IsSlice) }
     ensures keys { IfNone result (length keys.now ≤ 64) }

@@ -14,10 +14,7 @@ use slice_rule::Slice;
 fn number_in(name: &str, value: &Value) -> Option<u32>
     ensures { result ≡ number_in name.now (view value.now) }
 {
-    match value.get(name) {
-        Some(number) => small_of(number),
-        None => None,
-    }
+    small_of(value.get(name)?)
 }
 
 #[tactic(auto, unfolding(crate::specs::Slices::slice_in))]
@@ -38,10 +35,7 @@ pub(crate) fn slice_of(value: &Value) -> Option<Option<Slice>>
     ensures { result ≡ slice_of (view value.now) }
 {
     match value.get("slice") {
-        Some(slice) => match slice_in(slice) {
-            Some(slice) => Some(Some(slice)),
-            None => None,
-        },
+        Some(slice) => Some(Some(slice_in(slice)?)),
         None => Some(None),
     }
 }

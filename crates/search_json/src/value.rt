@@ -15,20 +15,15 @@ fn only(members: &Map<String, Value>) -> Option<(&str, &Value)>
     if members.len() != 1 {
         return None;
     }
-    match members.first_key_value() {
-        Some((name, value)) => Some((name.as_str(), value)),
-        None => None,
-    }
+    let (name, value) = members.first_key_value()?;
+    Some((name.as_str(), value))
 }
 
 /// The name and the value of the only member of an object.
 pub(crate) fn only_of(value: &Value) -> Option<(&str, &Value)>
     ensures { option_map (λ pair. (pair.0.now, view pair.1.now)) result ≡ only_of (view value.now) }
 {
-    match value.as_object() {
-        Some(members) => only(members),
-        None => None,
-    }
+    only(value.as_object()?)
 }
 
 /// A whole number of 0 to 2^31 - 1.

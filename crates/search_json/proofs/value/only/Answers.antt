@@ -7,7 +7,7 @@ use Rattle.search_json.proofs.value.only.Goals as goal
 pub returns-then-len-ne1 : goal.returns-then-len-ne1
 returns-then-len-ne1 c = sym (not_one c.args.members.now.entries (λ one. omega (arith, one)))
 
-pub returns-in-Some : goal.returns-in-Some
-returns-in-Some c =
-    ap (λ name. Some (name, view c.in-Some.value.now)) c.as_str.ensures.value
-    ∙ sym (the_one c.args.members.now.entries (c.in-Some.name.now, c.in-Some.value.now) (omega arith) c.in-Some.ensures.first)
+pub returns : goal.returns
+returns c =
+    ap (λ name. Some (name, view c.in_ok-name.value.now)) c.as_str.ensures.value
+    ∙ sym (the_one c.args.members.now.entries (c.in_ok-name.name.now, c.in_ok-name.value.now) (omega arith) c.in_ok-name.ensures.first)
