@@ -1,5 +1,6 @@
 //! Histories of `list_machine` and `es_core`: both give the same replies to the same events.
-ghost use Rattle.std.specs.Prelude.{◌≡◌, ◌+◌, ◌<◌, ◌^◌, IfOk, OnOk};
+ghost use Rattle.std.specs.Prelude.{◌≡◌, ◌+◌, ◌<◌, IfOk, OnOk};
+ghost use Rattle.es_types.specs.declared.limits.TheConstants.{MOST_ENTRIES};
 ghost use Rattle.list_machine.specs.Run.{IsBounded, PutsObject};
 ghost use Rattle.es_core.specs.Plans.{CanAnswer, CanRun};
 
@@ -19,7 +20,7 @@ use std::test::Fail;
 
 // The drop of an entry stands here alone, and that of an event in the next one. Each step is one entry.
 fn take_step(machine: &mut Machine, entry: Entry) -> Result<Reply, NoMemory>
-    requires early { machine.old.entries < 2 ^ 53 }
+    requires early { machine.old.entries < MOST_ENTRIES }
     requires bounded { IsBounded entry.event }
     ensures { OnOk result (machine.new.entries ≡ machine.old.entries + 1) }
 {
@@ -80,7 +81,7 @@ fn reply_to(alloc: Global, turned: Turned) -> Result<Reply, NoMemory>
 }
 
 fn ask_machine(alloc: Global, machine: &mut Machine, asked: &str) -> Result<Reply, Fail>
-    requires { machine.old.entries < 2 ^ 53 }
+    requires { machine.old.entries < MOST_ENTRIES }
     ensures { OnOk result (machine.new.entries ≡ machine.old.entries + 1) }
 {
     let moment = moment(asked)?;
@@ -106,7 +107,7 @@ fn machine_says(
     asked: &str,
     want: &str,
 ) -> Result<(), Fail>
-    requires { machine.old.entries < 2 ^ 53 }
+    requires { machine.old.entries < MOST_ENTRIES }
     ensures { OnOk result (machine.new.entries ≡ machine.old.entries + 1) }
 {
     let found = said(alloc, ask_machine(alloc, machine, asked)?)?;

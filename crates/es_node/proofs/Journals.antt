@@ -5,6 +5,7 @@ use Rattle.std.proofs.lemmas.Bool.Decides.{nat_tests}
 use Rattle.std.proofs.lemmas.List.{append-nil, length-map}
 use Rattle.std.proofs.lemmas.List.Sums.{length-filter}
 use Rattle.std.proofs.lemmas.List.Elements.{All-nil, All-cons, All-append, All-map, filter_passes}
+use Rattle.es_types.specs.declared.limits.TheConstants.{MOST_ENTRIES}
 use Rattle.list_machine.specs.declared.event.Entry.{Entry}
 use Rattle.list_machine.specs.declared.event.Event.{Event}
 use Rattle.list_machine.specs.declared.event.Event.TheVariants.{Create, Write, Seal, Publish, OpenPit, Search, Close, Quiet}
@@ -78,7 +79,7 @@ added limits moment event history new reply is said =
 
 -- there is room for one more
 room_left : (limits : Limits) (history : History) → IsKept limits history → length history < limits.entries
-    → length history < 9007199254740992
+    → length history < MOST_ENTRIES
 room_left limits history kept room = omega (arith, kept.bounded, room)
 
 -- what the answer to a turn of the core says of the history: where its plan finds no memory, the entry stands
