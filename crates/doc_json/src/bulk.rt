@@ -2,7 +2,7 @@
 ghost use Rattle.std.specs.Prelude.{◌≡◌, ◌+◌, ◌<◌, ◌≤◌, ◌==◌, length, position, option_map, IfOk, IfSome};
 ghost use Rattle.serde_json.specs.View.{view};
 ghost use Rattle.es_types.specs.Fail.{Answers};
-ghost use Rattle.doc_json.specs.Bulks.{action_of, change_at, index_in, item_at, line_at, verb_of};
+ghost use Rattle.doc_json.specs.Bulks.{KindLiesIn, LiesIn, LineLiesIn, action_at, change_of, index_in, item_at, item_of, kind_at, line_at, target_of, text_of, verb_of};
 
 use crate::fault::BodyFault;
 use crate::value::{is_form, only_member, read_data};
@@ -28,6 +28,42 @@ pub struct BulkItem {
     pub next: usize,
 }
 
+/// Where a line stands in a body: from its first byte up to its line feed.
+#[derive(Clone, Copy)]
+pub struct Line {
+    pub from: usize,
+    pub to: usize,
+}
+
+impl Line {
+    /// The bytes of the line.
+    pub fn of(self, body: &[u8]) -> &[u8]
+        requires { LineLiesIn body.now self }
+        ensures { result.now ≡ text_of body.now self }
+    {
+        &body[self.from..self.to]
+    }
+}
+
+/// What an action of a bulk does to a document.
+#[derive(Clone, Copy)]
+pub enum ActionKind {
+    /// The document's line.
+    Put(Line),
+    Remove,
+}
+
+/// An action of a bulk, with its document's line where that stands in the body. Neither the name of its index nor its id
+/// is judged.
+#[derive(Drop)]
+pub struct BulkAction {
+    pub index: Text,
+    pub id: Text,
+    pub kind: ActionKind,
+    /// Where the next item begins in the body.
+    pub next: usize,
+}
+
 /// The item of a bulk that begins there, unless the body ends there. An item that names no index is of the one that is
 /// handed in. Each line ends with a line feed, and none is empty.
 ///
@@ -44,6 +80,26 @@ pub fn next_bulk(
     ensures onward { IfOk result (λ found. IfSome found
         (λ item. (at < item.next) × (item.next ≤ length body.now))) }
 {
+    match next_action(alloc, body, at, index)? {
+        Some(action) => Ok(Some(item_of(alloc, body, action)?)),
+        None => Ok(None),
+    }
+}
+
+/// The action of a bulk that begins there, as `next_bulk` has it, with the place of its document's line in place of a copy.
+#[tactic(auto, unfolding(crate::specs::Bulks::action_at))]
+pub fn next_action(
+    alloc: Global,
+    body: &[u8],
+    at: usize,
+    index: Option<&Text>,
+) -> Result<Option<BulkAction>, Fail<BodyFault>>
+    requires { at ≤ length body.now }
+    ensures answer { Answers result (action_at (option_map (λ name. name.now) index.entry) body.now at) }
+    ensures onward { IfOk result (λ found. IfSome found
+        (λ action. (at < action.next) × (action.next ≤ length body.now))) }
+    ensures within { IfOk result (λ found. IfSome found (LiesIn body.now)) }
+{
     if at == body.len() {
         return Ok(None);
     }
@@ -53,18 +109,51 @@ pub fn next_bulk(
     let Some(value) = read_data(alloc, line)? else {
         return Err(Fail::Is(BodyFault::NotJson));
     };
-    let Some((puts, index, id)) = action_of(&value, index) else {
+    let Some((puts, index, id)) = target_of(&value, index) else {
         return Err(Fail::Is(BodyFault::Shape));
     };
-    let Some((change, next)) = change_at(alloc, puts, body, at + line.len() + 1)? else {
+    let Some((kind, next)) = kind_at(puts, body, at + line.len() + 1) else {
         return Err(Fail::Is(BodyFault::Shape));
     };
-    Ok(Some(BulkItem {
+    Ok(Some(BulkAction {
         index: text(alloc, index)?,
         id: text(alloc, id)?,
-        change,
+        kind,
         next,
     }))
+}
+
+// The item that an action is, with a copy of its document's line.
+fn item_of(alloc: Global, body: &[u8], action: BulkAction) -> Result<BulkItem, NoMemory>
+    requires { LiesIn body.now action }
+    ensures { IfOk result (λ item. item ≡ item_of body.now action) }
+{
+    let change = change_of(alloc, body, action.kind)?;
+    let BulkAction {
+        index,
+        id,
+        kind: _,
+        next,
+    } = action;
+    Ok(BulkItem {
+        index,
+        id,
+        change,
+        next,
+    })
+}
+
+fn change_of(alloc: Global, body: &[u8], kind: ActionKind) -> Result<BulkChange, NoMemory>
+    requires { KindLiesIn body.now kind }
+    ensures { IfOk result (λ change. change ≡ change_of body.now kind) }
+{
+    match kind {
+        ActionKind::Put(line) => {
+            let document = Vec::from_slice(alloc, line.of(body))?;
+            Ok(BulkChange::Put(Bytes::of(document)))
+        }
+        ActionKind::Remove => Ok(BulkChange::Remove),
+    }
 }
 
 // The line up to the next line feed, where there is one and the line isn't empty.
@@ -89,10 +178,10 @@ fn line_end(bytes: &[u8]) -> Option<usize>
 }
 
 // Whether a line puts a document or removes one, in which index, and of which id.
-#[tactic(auto, unfolding(crate::specs::Bulks::action_of))]
-fn action_of<'v>(value: &'v Value, index: Option<&'v Text>) -> Option<(bool, &'v str, &'v str)>
+#[tactic(auto, unfolding(crate::specs::Bulks::target_of))]
+fn target_of<'v>(value: &'v Value, index: Option<&'v Text>) -> Option<(bool, &'v str, &'v str)>
     ensures { option_map (λ a. (a.0, a.1.now, a.2.now)) result
-        ≡ action_of (option_map (λ name. name.now) index.entry) (view value.now) }
+        ≡ target_of (option_map (λ name. name.now) index.entry) (view value.now) }
 {
     let (puts, target) = verb_of(value)?;
     if !is_form(target, &["_index", "_id"]) {
@@ -129,28 +218,18 @@ fn index_in<'v>(given: Option<&'v Text>, named: Option<&'v Value>) -> Option<&'v
 }
 
 // What is done after the action line, and where the next item begins.
-#[tactic(auto, unfolding(crate::specs::Bulks::change_at))]
-fn change_at(
-    alloc: Global,
-    puts: bool,
-    body: &[u8],
-    at: usize,
-) -> Result<Option<(BulkChange, usize)>, NoMemory>
+#[tactic(auto, unfolding(crate::specs::Bulks::kind_at))]
+fn kind_at(puts: bool, body: &[u8], at: usize) -> Option<(ActionKind, usize)>
     requires { at ≤ length body.now }
-    ensures change { IfOk result (λ found. found ≡ change_at puts body.now at) }
-    ensures onward { IfOk result (λ found. IfSome found
-        (λ change. (at ≤ change.1) × (change.1 ≤ length body.now))) }
+    ensures kind { result ≡ kind_at puts body.now at }
+    ensures onward { IfSome result (λ found. (at ≤ found.1) × (found.1 ≤ length body.now)) }
+    ensures within { IfSome result (λ found. KindLiesIn body.now found.0) }
 {
     if !puts {
-        return Ok(Some((BulkChange::Remove, at)));
+        return Some((ActionKind::Remove, at));
     }
-    match line_at(body, at) {
-        Some(line) => {
-            let document = Bytes::of(Vec::from_slice(alloc, line)?);
-            Ok(Some((BulkChange::Put(document), at + line.len() + 1)))
-        }
-        None => Ok(None),
-    }
+    let to = at + line_at(body, at)?.len();
+    Some((ActionKind::Put(Line { from: at, to }), to + 1))
 }
 
 fn text(alloc: Global, name: &str) -> Result<Text, NoMemory>

@@ -7,7 +7,7 @@ mod fault;
 mod index;
 mod value;
 
-pub use bulk::{BulkChange, BulkItem, next_bulk};
+pub use bulk::{ActionKind, BulkAction, BulkChange, BulkItem, Line, next_action, next_bulk};
 pub use document::read_doc;
 pub use fault::BodyFault;
 pub use index::{IndexSpec, filled, read_index};

@@ -1,6 +1,9 @@
 //! The calls of `doc_json`.
 use crate::given::text;
-use doc_json::{BodyFault, BulkChange, BulkItem, next_bulk, read_data, read_doc, read_index};
+use doc_json::{
+    ActionKind, BodyFault, BulkAction, BulkChange, BulkItem, next_action, next_bulk, read_data,
+    read_doc, read_index,
+};
 use es_types::{DocValue, Fail as Failure, FieldKind, LimitName, Text};
 use std::alloc::Global;
 use std::process::Abort;
@@ -223,6 +226,61 @@ fn bulks(rt: HostRuntime) -> Result<(), Fail> {
     }
     let found = bulk_text(alloc, None, "{\"delete\":{\"_id\":\"a\"}}\n")?;
     assert_eq!(rt; found.as_str(), "shape");
+    Ok(())
+}
+
+// What an action does, and where its document's line stands.
+fn action_text(alloc: Global, action: &BulkAction) -> Result<String, Fail> {
+    let (index, id) = (action.index.as_str(), action.id.as_str());
+    Ok(match action.kind {
+        ActionKind::Put(line) => {
+            format!(in alloc; "{index}/{id} {}..{},{} ", line.from, line.to, action.next)?
+        }
+        ActionKind::Remove => format!(in alloc; "{index}/{id} goes,{} ", action.next)?,
+    })
+}
+
+// The actions of a bulk up to its end or the first fault.
+fn actions_text(alloc: Global, index: Option<&Text>, body: &str) -> Result<String, Fail> {
+    let mut found = String::new(alloc);
+    let mut at = 0;
+    'items: for _ in 0..9 {
+        match next_action(alloc, body.as_bytes(), at, index) {
+            Ok(Some(action)) => {
+                found.push_str(&action_text(alloc, &action)?)?;
+                at = action.next;
+            }
+            Ok(None) => return Ok(found),
+            Err(fault) => {
+                found.push_str(word_of(&fault))?;
+                return Ok(found);
+            }
+        }
+    }
+    Ok(found)
+}
+
+// A stroke stands for a line feed.
+const ACTIONS: &str = r#"
+ -> 
+{"index":{"_id":"a"}}|{"n":1}|{"delete":{"_id":"b","_index":"s"}}| -> r/a 22..29,30 s/b goes,66 
+{"delete":{"_id":"a"}}|{"index":{"_id":"a"}}|{|| -> r/a goes,23 r/a 45..46,47 shape
+{"index":{"_id":"a"}}|{} -> shape
+[| -> no json
+"#;
+
+#[test]
+fn actions(rt: HostRuntime) -> Result<(), Fail> {
+    let alloc = rt.alloc();
+    let r = text(alloc, "r")?;
+    for line in ACTIONS.lines() {
+        if !line.is_empty() {
+            let (body, want) = line.split_once(" -> ").ok_or("actions")?;
+            let body = body.replace(alloc, "|", "\n")?;
+            let found = actions_text(alloc, Some(&r), body.as_str())?;
+            assert_eq!(rt; found.as_str(), want, "{body}");
+        }
+    }
     Ok(())
 }
 

@@ -40,6 +40,7 @@ fn ask_text(alloc: Global, ask: &Ask) -> Result<String, NoMemory> {
             index: _,
             body: _,
             refresh: _,
+            items: _,
         } => "bulk",
         Ask::Refresh { index: _ } => "refresh",
         Ask::OpenPit { index: _, keep } => return format!(in alloc; "open for {}", keep.millis()),
@@ -103,7 +104,7 @@ fn fault_text(alloc: Global, fault: &RestFault) -> Result<String, NoMemory> {
 }
 
 // What a request asks for, or why it is refused.
-fn asked(alloc: Global, request: &Request) -> Result<String, NoMemory> {
+fn asked(alloc: Global, request: Request) -> Result<String, NoMemory> {
     match route(alloc, request) {
         Ok(ask) => ask_text(alloc, &ask),
         Err(fault) => fault_text(alloc, &fault),
@@ -263,7 +264,7 @@ fn requests(rt: HostRuntime) -> Result<(), Fail> {
         if !line.is_empty() {
             let (line, want) = line.split_once(" -> ").ok_or("what it asks for")?;
             let request = read(alloc, line)?;
-            let found = asked(alloc, &request)?;
+            let found = asked(alloc, request)?;
             assert_eq!(rt; found.as_str(), want, "{line}");
         }
     }

@@ -2,7 +2,7 @@
 use Rattle.std.proofs.Common.{◌≡◌, MatchResult, Result, Ok, Err, refl, sym, ap, subst, ◌∙◌, inl, inr, ℕ, ◌+◌, ◌<◌, ◌≤◌, max, List, [], ◌∷◌, ◌++◌, length, filter, Bool, true, cond, arith, length-append}
 use Rattle.std.specs.Prelude.{IfOk, OnOk, OnErr, count_by, ◌≢◌, ◌==◌}
 use Rattle.std.proofs.lemmas.Bool.Decides.{nat_tests}
-use Rattle.std.proofs.lemmas.List.{append-nil, length-map}
+use Rattle.std.proofs.lemmas.List.{append-nil, length-map, map_push}
 use Rattle.std.proofs.lemmas.List.Sums.{length-filter}
 use Rattle.std.proofs.lemmas.List.Elements.{All-nil, All-cons, All-append, All-map, filter_passes}
 use Rattle.es_types.specs.declared.limits.TheConstants.{MOST_ENTRIES}
@@ -26,8 +26,18 @@ use Rattle.es_core.specs.declared.turned.Chore.TheVariants.{Reap}
 use Rattle.es_core.specs.Contexts.{contexts_seen, left_by}
 use Rattle.es_core.specs.Plans.{turned_reply}
 use Rattle.es_core.specs.Stands.{Rests, Stands, StandsOn}
-use Rattle.es_node.specs.Solo.{Advances, IsOwn, IsRunning, Tidies, rest}
+use Rattle.es_node.specs.Solo.{Advances, IsOwn, IsRunning, Tidies, entries, rest}
 use Rattle.es_rest.proofs.Talks.{grows_not}
+use Rattle.core.specs.declared.snapshot.Snapshot.{Snapshot}
+
+-- as many entries as the journal has
+pub entries_count : (journal : List (Snapshot Entry)) → length (entries journal) ≡ length journal
+entries_count journal = length-map journal (λ (it : Snapshot Entry). it.value)
+
+-- one more
+pub entries_more : (journal : List (Snapshot Entry)) (it : Snapshot Entry) (entry : Entry) → it.value ≡ entry → entries (journal ++ it ∷ []) ≡ entries journal ++ entry ∷ []
+entries_more journal it entry is =
+    map_push (λ (s : Snapshot Entry). s.value) journal it ∙ ap (λ (e : Entry). entries journal ++ e ∷ []) is
 
 -- what may be asked puts objects alone
 pub askable_object : (limits : Limits) (history : History) (event : Event) → IsAskable limits history event → PutsObject event

@@ -1,5 +1,6 @@
 -- A service with one caller, as contracts see it: its limits, the history so far, and how many contexts the book of its core holds.
-use Rattle.std.specs.Prelude.{◌≡◌, ◌⊎◌, ℕ, ◌<◌, List, [], ◌∷◌, ◌++◌, length, All}
+use Rattle.std.specs.Prelude.{◌≡◌, ◌⊎◌, ℕ, ◌<◌, List, [], ◌∷◌, ◌++◌, length, map, All}
+use Rattle.core.specs.declared.snapshot.Snapshot.{Snapshot}
 use Rattle.es_types.specs.declared.limits.TheConstants.{MOST_ENTRIES}
 use Rattle.list_machine.specs.declared.event.Entry.{Entry}
 use Rattle.list_machine.specs.declared.event.Event.TheVariants.{Quiet}
@@ -10,6 +11,10 @@ use Rattle.es_core.specs.declared.node.Core.{Core}
 use Rattle.es_core.specs.declared.turned.Turned.{Turned}
 use Rattle.es_core.specs.Plans.{turned_reply}
 use Rattle.es_core.specs.Stands.{Stands}
+
+-- the entries that a journal stands for
+abbrev pub entries : List (Snapshot Entry) → List Entry
+entries journal = map (λ (it : Snapshot Entry). it.value) journal
 
 pub record Journal : Type 0 where
   pub limits : Limits

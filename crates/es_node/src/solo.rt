@@ -7,7 +7,7 @@ ghost use Rattle.list_machine.specs.State.{live_contexts};
 ghost use Rattle.es_core.specs.Contexts.{left_by};
 ghost use Rattle.es_core.specs.Plans.{CanAnswer, turned_reply};
 ghost use Rattle.es_core.specs.Stands.{Rests, StandsOn};
-ghost use Rattle.es_node.specs.Solo.{Advances, AreOwn, Helps, Tidies, rest};
+ghost use Rattle.es_node.specs.Solo.{Advances, AreOwn, Helps, Tidies, entries, rest};
 
 use crate::search_exec::run;
 use es_core::{Brought, Chore, Core, Turned};
@@ -15,30 +15,32 @@ use es_types::{Moment, NoMemory};
 use list_machine::{Entry, Event, Limits, Reply, Service};
 use std::alloc::Global;
 use std::marker::Model;
+use std::snapshot::Snapshot;
 
-/// A service with one caller: the core, and the journal of all entries so far.
+/// A service with one caller: the core, and the journal of all entries so far. The journal counts them; what they are is
+/// known to proofs alone, so that none takes memory.
 #[derive(Drop)]
 pub struct Solo {
     alloc: Global,
     limits: Limits,
     core: Core,
-    journal: Vec<Entry>,
+    journal: Vec<Snapshot<Entry>>,
 }
 
 impl Model for Solo {
     ghost use Rattle.std.specs.Prelude.{length};
     ghost use Rattle.std.specs.Coded.{codes};
     ghost use Rattle.es_query.specs.contracts.query.Query as query;
-    ghost use Rattle.es_node.specs.Solo.{IsRunning, Journal};
+    ghost use Rattle.es_node.specs.Solo.{IsRunning, Journal, entries};
 
     ghost Value = { Journal };
 
     // An entry may hold a query, which holds queries.
     ghost coded = { Prim.hlevel (codes, query.the_row.coded) };
 
-    ghost view = { λ s. record { limits = s.limits; history = s.journal.items; kept = length s.core.book.contexts } };
+    ghost view = { λ s. record { limits = s.limits; history = entries s.journal.items; kept = length s.core.book.contexts } };
 
-    ghost invariant = { λ s. IsRunning s.limits s.core s.journal.items };
+    ghost invariant = { λ s. IsRunning s.limits s.core (entries s.journal.items) };
 }
 
 impl Solo {
@@ -84,28 +86,32 @@ fn answer(alloc: Global, turned: Turned) -> Result<Reply, NoMemory>
 }
 
 // Takes the step of an entry and writes it down. Nothing changes where memory runs out.
-fn advance(core: &mut Core, journal: &mut Vec<Entry>, entry: Entry) -> Result<Turned, NoMemory>
+fn advance(
+    core: &mut Core,
+    journal: &mut Vec<Snapshot<Entry>>,
+    entry: Entry,
+) -> Result<Turned, NoMemory>
     requires object { PutsObject entry.event }
     requires bounded { IsBounded entry.event }
     ensures advances { IfOk result (Advances core.old core.new entry) }
     ensures runs { IfOk result CanAnswer }
-    ensures journal { IfOk result (λ _. journal.new.items ≡ journal.old.items ++ entry ∷ []) }
+    ensures journal { IfOk result (λ _. entries journal.new.items ≡ entries journal.old.items ++ entry ∷ []) }
     ensures core_kept { OnErr result (StandsOn core.old core.new) }
     ensures journal_kept { OnErr result (journal.new.items ≡ journal.old.items) }
 {
     journal.reserve(1)?;
     let turned = core.turn(&entry.event, entry.moment, Brought::Nothing)?;
-    match journal.push(entry) {
+    match journal.push(Snapshot::of(&entry)) {
         Ok(()) => Ok(turned),
         Err(_) => unreachable!(),
     }
 }
 
 // Lets go what is over, and writes down the Quiet of it. Nothing changes where memory runs out.
-fn reap(core: &mut Core, journal: &mut Vec<Entry>, moment: Moment) -> Result<(), NoMemory>
+fn reap(core: &mut Core, journal: &mut Vec<Snapshot<Entry>>, moment: Moment) -> Result<(), NoMemory>
     ensures rests { OnOk result (Rests core.old core.new moment) }
     ensures left { OnOk result (core.new.book.contexts ≡ left_by Chore.Reap (max core.old.moment moment) core.old.book.contexts) }
-    ensures journal { OnOk result (journal.new.items ≡ journal.old.items ++ rest moment ∷ []) }
+    ensures journal { OnOk result (entries journal.new.items ≡ entries journal.old.items ++ rest moment ∷ []) }
     ensures core_kept { OnErr result (StandsOn core.old core.new) }
     ensures journal_kept { OnErr result (journal.new.items ≡ journal.old.items) }
 {
@@ -116,7 +122,7 @@ fn reap(core: &mut Core, journal: &mut Vec<Entry>, moment: Moment) -> Result<(),
         moment,
         event: Event::Quiet,
     };
-    match journal.push(entry) {
+    match journal.push(Snapshot::of(&entry)) {
         Ok(()) => Ok(()),
         Err(_) => unreachable!(),
     }

@@ -1,5 +1,5 @@
 -- The items of a bulk, one after the other.
-use Rattle.std.proofs.Common.{Option, cond, MatchResult, ◌≡◌, refl, sym, ap, subst, ◌∙◌, inl, inr, ⊎_elim, ℕ, List, [], ◌∷◌, ◌++◌, Result, Ok, Err, append_assoc}
+use Rattle.std.proofs.Common.{Option, cond, MatchResult, ◌≡◌, refl, sym, ap, subst, ◌∙◌, inl, inr, ⊎_elim, ℕ, List, [], ◌∷◌, ◌++◌, length, Result, Ok, Err, append_assoc, arith}
 use Rattle.std.specs.Prelude.{OnOk, Bool, true, false, ◌||◌, bytes_eq}
 use Rattle.std.proofs.lemmas.List.{append-nil}
 use Rattle.list_machine.specs.declared.event.Event.{Event}
@@ -18,6 +18,11 @@ use Rattle.es_rest.specs.Led.{BulkCut, ItemAsked, ItemCut, ItemDone, ItemRefused
 use Rattle.es_rest.specs.Scripts.{Part, Script, Talks, each}
 use Rattle.es_rest.specs.Talk.{after_each}
 use Rattle.es_rest.proofs.Scripts.{cut_first, cut_on, talks_on, talks_one}
+
+-- a list without items
+pub none_left : {A : Type 0} (l : List A) → length l ≡ 0 → l ≡ []
+none_left [] none = refl
+none_left (x ∷ xs) none = absurd (omega (arith, none))
 
 -- ---- names
 

@@ -69,7 +69,7 @@ pub record IsLabel (ask : Ask) (event : Event) (it : Named) (route : RouteName) 
 -- what a request comes to: one event with its label, a bulk, or a refresh
 abbrev pub IsWork : Ask → Work → Type 0
 IsWork ask (work.One event label) = IsLabel ask event label.names label.route label.refreshed.items × ((limits : Limits) (history : History) → IsAskable limits history event)
-IsWork ask (work.Bulk index body refresh) = ask ≡ Bulk index body refresh
+IsWork ask (work.Bulk index body refresh items) = ask ≡ Bulk index body refresh items
 IsWork ask (work.Refresh index) = ask ≡ Refresh index
 
 -- ---- a bulk

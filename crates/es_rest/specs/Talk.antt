@@ -38,7 +38,7 @@ abbrev pub events_of : Ask → List Event
 events_of (Create index spec) = event.Create index spec.shards spec.mapping ∷ []
 events_of (Put index id doc refresh) = event.Write index id (change.Put doc) ∷ []
 events_of (Remove index id refresh) = event.Write index id change.Remove ∷ []
-events_of (Bulk index body refresh) = writes_of (items_in (items_of index body))
+events_of (Bulk index body refresh items) = writes_of (items_in (items_of index body))
 events_of (Refresh index) = []
 events_of (OpenPit index keep) = event.OpenPit index keep ∷ []
 events_of (ClosePit number) = event.Close (Pits (number ∷ [])) ∷ []
@@ -53,7 +53,7 @@ written refresh index (said ∷ replies) = if is_refused said then [] else (if r
 abbrev pub refreshed_of : Ask → List Reply → List (List ℕ)
 refreshed_of (Put index id doc refresh) replies = written refresh index replies
 refreshed_of (Remove index id refresh) replies = written refresh index replies
-refreshed_of (Bulk index body refresh) replies = if refresh then changed_by [] (items_in (items_of index body)) replies else []
+refreshed_of (Bulk index body refresh items) replies = if refresh then changed_by [] (items_in (items_of index body)) replies else []
 refreshed_of (Refresh index) replies = index ∷ []
 refreshed_of other replies = []
 
@@ -102,7 +102,7 @@ abbrev pub answer_of : Ask → List Reply → Part → Option Response
 answer_of (Create index spec) replies part = one_answer (named.Index index) (route.Create index) replies
 answer_of (Put index id doc refresh) replies part = one_answer (named.Index index) (route.Put index id) replies
 answer_of (Remove index id refresh) replies part = one_answer (named.Index index) (route.Remove index id) replies
-answer_of (Bulk index body refresh) replies part = Some (response.Bulk (lines_of (items_in (items_of index body)) replies))
+answer_of (Bulk index body refresh items) replies part = Some (response.Bulk (lines_of (items_in (items_of index body)) replies))
 answer_of (Refresh index) replies part = seal_answer part
 answer_of (OpenPit index keep) replies part = one_answer (named.Index index) route.OpenPit replies
 answer_of (ClosePit number) replies part = one_answer (named.Context []) route.ClosePit replies

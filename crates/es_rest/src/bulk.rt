@@ -1,9 +1,10 @@
 //! Bulks.
-ghost use Rattle.std.specs.Prelude.{◌≡◌, ◌++◌, [], ◌∷◌, List, Ok, OnOk, IsTrue, MatchResult, if◌then◌else◌, option_map};
+ghost use Rattle.std.specs.Prelude.{◌≡◌, ◌++◌, [], ◌∷◌, ℕ, List, All, OnOk, IsTrue, MatchResult, if◌then◌else◌};
 ghost use Rattle.es_types.specs.Name.{is_index_name};
-ghost use Rattle.doc_json.specs.declared.bulk.BulkItem.{BulkItem};
+ghost use Rattle.doc_json.specs.Bulks.{LiesIn, item_of};
 ghost use Rattle.es_route.specs.declared.ask.Ask.TheVariants as asks;
-ghost use Rattle.es_route.specs.Items.{items_of};
+ghost use Rattle.es_route.specs.Items.{items_with};
+ghost use Rattle.es_route.specs.Route.{AsksSound};
 ghost use Rattle.es_rest.specs.Items.{line_of, outcome_of, with_index, with_name};
 ghost use Rattle.es_rest.specs.Led.{BulkCut, ItemCut, ItemDone, ItemsDone};
 ghost use Rattle.es_rest.specs.Talk.{Conversation, Interrupted};
@@ -11,9 +12,9 @@ ghost use Rattle.es_rest.specs.Talk.{Conversation, Interrupted};
 use crate::items::{line_of, outcome_of};
 use crate::refresh::refresh_all;
 use crate::refusal::is_refused;
-use doc_json::{BulkItem, next_bulk};
+use doc_json::BulkAction;
 use es_route::write_of;
-use es_types::{Bytes, Copied, Fail, IndexName, Items, Moment, NoMemory, Text};
+use es_types::{Bytes, Copied, IndexName, Items, Moment, NoMemory, Text};
 use list_machine::{Reply, Service};
 use reply_json::{BulkLine, BulkOutcome, Response, RestFault};
 use std::alloc::Global;
@@ -84,17 +85,22 @@ pub struct Written {
     pub changed: Changed,
 }
 
-// Notes what became of an item's Write.
-fn note(alloc: Global, item: BulkItem, said: Reply, written: &mut Written) -> Result<(), NoMemory>
-    requires { IsTrue (is_index_name item.index) }
-    ensures lines { OnOk result (written.new.lines.items ≡ written.old.lines.items ++ line_of item (outcome_of item.index said) ∷ []) }
-    ensures changed { OnOk result (written.new.changed ≡ with_index written.old.changed item.index said) }
+// Notes what became of an item's Write. Its names move into its line.
+fn note(
+    alloc: Global,
+    action: BulkAction,
+    said: Reply,
+    written: &mut Written,
+) -> Result<(), NoMemory>
+    requires { IsTrue (is_index_name action.index) }
+    ensures lines { (body : List ℕ) → OnOk result (written.new.lines.items ≡ written.old.lines.items ++ line_of (item_of body action) (outcome_of action.index said) ∷ []) }
+    ensures changed { OnOk result (written.new.changed ≡ with_index written.old.changed action.index said) }
 {
     if !is_refused(&said) {
-        written.changed.add(alloc, &item.index)?;
+        written.changed.add(alloc, &action.index)?;
     }
-    let outcome = outcome_of(alloc, &item.index, said)?;
-    written.lines.push(line_of(item, outcome))?;
+    let outcome = outcome_of(alloc, &action.index, said)?;
+    written.lines.push(line_of(action, outcome))?;
     Ok(())
 }
 
@@ -102,26 +108,28 @@ fn note(alloc: Global, item: BulkItem, said: Reply, written: &mut Written) -> Re
 fn write_item<V: Service>(
     alloc: Global,
     service: &mut V,
-    item: BulkItem,
+    body: &[u8],
+    action: BulkAction,
     moment: Moment,
     written: &mut Written,
 ) -> Result<(), NoMemory>
+    requires { LiesIn body.now action }
     ensures item { MatchResult result
-        (λ _. ItemDone (V.limits service.old) (V.seat service.old) moment (V.front service.old) (V.front service.new) item written.old written.new)
-        (λ _. ItemCut (V.limits service.old) (V.seat service.old) moment (V.front service.old) (V.front service.new) item) }
+        (λ _. ItemDone (V.limits service.old) (V.seat service.old) moment (V.front service.old) (V.front service.new) (item_of body.now action) written.old written.new)
+        (λ _. ItemCut (V.limits service.old) (V.seat service.old) moment (V.front service.old) (V.front service.new) (item_of body.now action)) }
     ensures seat { V.seat service.new ≡ V.seat service.old }
     ensures limits { V.limits service.new ≡ V.limits service.old }
 {
-    match write_of(alloc, &item) {
+    match write_of(alloc, body, &action) {
         Ok(event) => {
             let said = service.ask(event, moment)?;
-            note(alloc, item, said, written)
+            note(alloc, action, said, written)
         }
         Err(RestFault::NoMemory) => Err(NoMemory),
         Err(fault) => {
             written
                 .lines
-                .push(line_of(item, BulkOutcome::Fault(fault)))?;
+                .push(line_of(action, BulkOutcome::Fault(fault)))?;
             Ok(())
         }
     }
@@ -131,14 +139,14 @@ fn write_item<V: Service>(
 fn write_items<V: Service>(
     alloc: Global,
     service: &mut V,
-    index: Option<&Text>,
     body: &[u8],
+    items: Vec<BulkAction>,
     moment: Moment,
 ) -> Result<Written, NoMemory>
-    requires { (items : List BulkItem) × (items_of (option_map (λ name. name.now) index) body.now ≡ Ok items) }
-    ensures items { (items : List BulkItem) → items_of (option_map (λ name. name.now) index.entry) body.now ≡ Ok items → MatchResult result
-        (ItemsDone (V.limits service.old) (V.seat service.old) moment items (V.front service.old) (V.front service.new))
-        (λ _. BulkCut (V.limits service.old) (V.seat service.old) moment items (V.front service.old) (V.front service.new)) }
+    requires { All (LiesIn body.now) items.items }
+    ensures items { MatchResult result
+        (ItemsDone (V.limits service.old) (V.seat service.old) moment (items_with body.now items.items) (V.front service.old) (V.front service.new))
+        (λ _. BulkCut (V.limits service.old) (V.seat service.old) moment (items_with body.now items.items) (V.front service.old) (V.front service.new)) }
     ensures seat { V.seat service.new ≡ V.seat service.old }
     ensures limits { V.limits service.new ≡ V.limits service.old }
 {
@@ -146,19 +154,10 @@ fn write_items<V: Service>(
         lines: Vec::new(alloc),
         changed: Changed::make(alloc),
     };
-    let mut at = 0;
-    'items: loop {
-        match next_bulk(alloc, body, at, index) {
-            Ok(Some(item)) => {
-                at = item.next;
-                write_item(alloc, service, item, moment, &mut written)?;
-            }
-            Err(Fail::NoMemory) => return Err(NoMemory),
-            Ok(None) => return Ok(written),
-            // The body was gone through before.
-            Err(Fail::Is(_)) => unreachable!(),
-        }
+    for action in items {
+        write_item(alloc, service, body, action, moment, &mut written)?;
     }
+    Ok(written)
 }
 
 /// Serves a bulk: a Write of each item, and then a refresh of the indexes that changed, where it asks for that.
@@ -168,16 +167,19 @@ pub fn bulk<V: Service>(
     index: Option<Text>,
     body: Bytes,
     refresh: bool,
+    items: Items<BulkAction>,
     moment: Moment,
 ) -> Result<Response, NoMemory>
-    requires { (items : List BulkItem) × (items_of index body ≡ Ok items) }
+    requires { AsksSound (asks.Bulk index body refresh items) }
     ensures talk { MatchResult result
-        (Conversation (V.limits service.old) (V.seat service.old) moment (asks.Bulk index body refresh) (V.front service.old) (V.front service.new))
-        (λ _. Interrupted (V.limits service.old) (V.seat service.old) moment (asks.Bulk index body refresh) (V.front service.old) (V.front service.new)) }
+        (Conversation (V.limits service.old) (V.seat service.old) moment (asks.Bulk index body refresh items) (V.front service.old) (V.front service.new))
+        (λ _. Interrupted (V.limits service.old) (V.seat service.old) moment (asks.Bulk index body refresh items) (V.front service.old) (V.front service.new)) }
     ensures seat { V.seat service.new ≡ V.seat service.old }
     ensures limits { V.limits service.new ≡ V.limits service.old }
 {
-    let written = write_items(alloc, service, index.as_ref(), body.as_slice(), moment)?;
+    // Each item names its index.
+    drop(index);
+    let written = write_items(alloc, service, body.as_slice(), items.into_inner(), moment)?;
     match refresh_all(alloc, service, written.changed.names_if(refresh), moment)? {
         Some(fault) => Ok(Response::Fault(fault)),
         None => Ok(Response::Bulk(Items::of(written.lines))),

@@ -51,17 +51,18 @@ fn answer<V: Service>(
     alloc: Global,
     service: &mut V,
     router: &Router<Resource>,
-    request: &Request,
+    request: Request,
     moment: Moment,
 ) -> Option<Bytes>
     requires { router.now ≡ all_routes }
     ensures answered { Answered (V.limits service.old) (V.seat service.old) moment (V.front service.old) (V.front service.new)
-        request.now (words_text result request.now.last) }
+        request (words_text result request.last) }
     ensures seat { V.seat service.new ≡ V.seat service.old }
     ensures limits { V.limits service.new ≡ V.limits service.old }
 {
+    let last = request.last;
     let response = respond(alloc, service, router, request, moment);
-    words_of(alloc, response, request.last)
+    words_of(alloc, response, last)
 }
 
 fn write_words<L: Link>(link: &mut L, words: &Option<Bytes>, last: bool) -> Result<(), WriteFault>
@@ -99,18 +100,18 @@ fn exchange<V: Service, L: Link, C: Clock>(
     link: &mut L,
     clock: &mut C,
     router: &Router<Resource>,
-    request: &Request,
+    request: Request,
     moment: &mut Moment,
 ) -> Result<(), WriteFault>
     requires { router.now ≡ all_routes }
     ensures exchanged { Exchanged V.helped V.tidied (V.limits service.old) (V.seat service.old) moment.new (V.front service.old) (V.front service.new)
-        request.now (L.written link.old) (L.written link.new) result }
+        request (L.written link.old) (L.written link.new) result }
     ensures seat { V.seat service.new ≡ V.seat service.old }
     ensures limits { V.limits service.new ≡ V.limits service.old }
     ensures later { moment.old ≤ moment.new }
     ensures answered { ClockAnswers moment.old moment.new (C.greatest clock.old) (C.greatest clock.new) }
-    ensures asks { AsksOnce C.asked clock.old clock.new request.now moment.old moment.new }
-    ensures last { LastGoesOn (C.last clock.old) (C.last clock.new) request.now moment.old moment.new }
+    ensures asks { AsksOnce C.asked clock.old clock.new request moment.old moment.new }
+    ensures last { LastGoesOn (C.last clock.old) (C.last clock.new) request moment.old moment.new }
     ensures fault { OnErr result (Rose (L.write_faults link.old) (L.write_faults link.new)) }
     ensures uncounted { OnOk result (L.write_faults link.new ≡ L.write_faults link.old) }
     ensures count { L.write_faults link.old ≤ L.write_faults link.new }
@@ -118,9 +119,10 @@ fn exchange<V: Service, L: Link, C: Clock>(
     ensures read_faults { L.read_faults link.new ≡ L.read_faults link.old }
     ensures held { L.held link.new ≡ L.held link.old }
 {
-    *moment = moment.later(clock.now(told_moment(request)));
+    *moment = moment.later(clock.now(told_moment(&request)));
+    let last = request.last;
     let words = answer(alloc, service, router, request, *moment);
-    let written = write_words(link, &words, request.last);
+    let written = write_words(link, &words, last);
     tidy_up(service, *moment, written.is_ok());
     written
 }
@@ -200,7 +202,7 @@ fn serve_requests<V: Service, L: Link, C: Clock>(
     'requests: loop {
         match next_request(alloc, link, &mut buf) {
             Ok(Some(request)) => {
-                match exchange(alloc, service, link, clock, &router, &request, &mut moment) {
+                match exchange(alloc, service, link, clock, &router, request, &mut moment) {
                     Ok(()) => {}
                     Err(_) => return ConnEnd::WriteFault,
                 }

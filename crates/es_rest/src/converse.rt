@@ -61,7 +61,8 @@ fn converse<V: Service>(
             index,
             body,
             refresh,
-        } => bulk(alloc, service, index, body, refresh, moment),
+            items,
+        } => bulk(alloc, service, index, body, refresh, items, moment),
         Work::Refresh { index } => refresh_route(alloc, service, &index, moment),
     }
 }
@@ -72,11 +73,11 @@ pub fn respond<V: Service>(
     alloc: Global,
     service: &mut V,
     router: &Router<Resource>,
-    request: &Request,
+    request: Request,
     moment: Moment,
 ) -> Response
     requires { router.now ≡ all_routes }
-    ensures responds { Responds (V.limits service.old) (V.seat service.old) moment (V.front service.old) (V.front service.new) request.now result }
+    ensures responds { Responds (V.limits service.old) (V.seat service.old) moment (V.front service.old) (V.front service.new) request result }
     ensures seat { V.seat service.new ≡ V.seat service.old }
     ensures limits { V.limits service.new ≡ V.limits service.old }
 {

@@ -1,9 +1,10 @@
 //! The items of a bulk, and their lines of the response.
-ghost use Rattle.std.specs.Prelude.{◌≡◌, IfOk};
+ghost use Rattle.std.specs.Prelude.{◌≡◌, ℕ, List, IfOk};
+ghost use Rattle.doc_json.specs.Bulks.{item_of};
 ghost use Rattle.es_rest.specs.Items.{line_of, outcome_of};
 
 use crate::refusal::{Named, refusal};
-use doc_json::{BulkChange, BulkItem};
+use doc_json::{ActionKind, BulkAction};
 use es_types::{Copied, NoMemory, Text};
 use list_machine::Reply;
 use reply_json::{BulkLine, BulkOutcome, RestFault};
@@ -23,19 +24,19 @@ pub fn outcome_of(alloc: Global, index: &Text, reply: Reply) -> Result<BulkOutco
 }
 
 /// The line of an item in the response.
-pub fn line_of(item: BulkItem, outcome: BulkOutcome) -> BulkLine
-    ensures { result ≡ line_of item outcome }
+pub fn line_of(action: BulkAction, outcome: BulkOutcome) -> BulkLine
+    ensures { (body : List ℕ) → result ≡ line_of (item_of body action) outcome }
 {
-    let remove = match &item.change {
-        BulkChange::Put(_) => false,
-        BulkChange::Remove => true,
-    };
-    let BulkItem {
+    let BulkAction {
         index,
         id,
-        change: _,
+        kind,
         next: _,
-    } = item;
+    } = action;
+    let remove = match kind {
+        ActionKind::Put(_) => false,
+        ActionKind::Remove => true,
+    };
     BulkLine {
         remove,
         index,

@@ -6,7 +6,7 @@ ghost use Rattle.es_rest.specs.Led.{IsWork};
 
 use crate::label::{Label, index_label, put_label, remove_label, search_label};
 use crate::refusal::Named;
-use doc_json::IndexSpec;
+use doc_json::{BulkAction, IndexSpec};
 use es_route::Ask;
 use es_types::{Bytes, Copied, IndexName, Items, NoMemory, Text};
 use list_machine::{Change, Event, Which};
@@ -22,6 +22,7 @@ pub enum Work {
         index: Option<Text>,
         body: Bytes,
         refresh: bool,
+        items: Items<BulkAction>,
     },
     Refresh { index: IndexName },
 }
@@ -75,10 +76,12 @@ pub fn work_of(alloc: Global, ask: Ask) -> Result<Work, NoMemory>
             index,
             body,
             refresh,
+            items,
         } => Ok(Work::Bulk {
             index,
             body,
             refresh,
+            items,
         }),
         Ask::Refresh { index } => Ok(Work::Refresh { index }),
         Ask::OpenPit { index, keep } => {

@@ -6,14 +6,10 @@ use Rattle.serde_json.specs.Data.{Data, Members}
 use Rattle.serde_json.specs.Find.{get}
 use Rattle.es_types.specs.declared.limit.LimitName.TheVariants as limit
 use Rattle.es_types.specs.declared.mapping.Field.{Field}
-use Rattle.doc_json.specs.declared.bulk.BulkItem.{BulkItem}
-use Rattle.doc_json.specs.declared.fault.BodyFault.{BodyFault}
 use Rattle.doc_json.specs.declared.fault.BodyFault.TheVariants as body
 use Rattle.doc_json.specs.declared.index.IndexSpec.{IndexSpec}
 use Rattle.doc_json.specs.Indexes.{filled, index_in, index_of, limited, mapped, mapping_of, properties_of, shards_of}
 use Rattle.doc_json.specs.Json.{data_of, form_then, is_form, json_then}
-use Rattle.es_route.specs.Limits.{body_fault}
-use Rattle.es_route.specs.Items.{checked}
 
 -- 1 to 1,024 shards
 abbrev HasShards : IndexSpec → Type 0
@@ -69,8 +65,3 @@ data_shards (Some value) spec is = value_shards value spec is
 pub index_shards : (bytes : List ℕ) (spec : IndexSpec) → index_of bytes ≡ Ok spec → HasShards spec
 unfolding index_of
 index_shards bytes spec is = data_shards (data_of (filled bytes)) spec is
-
--- items that were checked are there
-pub has_items : (r : Result (List BulkItem) BodyFault) → checked r ≡ Ok tt → (items : List BulkItem) × (r ≡ Ok items)
-has_items (Ok items) is = (items, refl)
-has_items (Err f) is = absurd (let e : Err (body_fault f) ≡ Ok tt = is in cc)

@@ -28,7 +28,7 @@ use Rattle.es_route.specs.Paths.{part, id_in, index_in, is_own_word}
 use Rattle.es_route.specs.declared.values.Key.TheVariants as key
 use Rattle.es_route.specs.Values.{needed, read_params}
 use Rattle.es_route.specs.Limits.{index_name, named, told}
-use Rattle.es_route.specs.Items.{items_of, checked}
+use Rattle.es_route.specs.Items.{actions_of, checked}
 use Rattle.es_route.specs.Route.{PitSearchesShowPlaces, asked_of, asked_at, asked_at_index, doc_asked, moment_first, of_index}
 use Rattle.es_route.specs.Answers.{and_then}
 use Rattle.es_route.specs.Bodies.{empty_body, no_body, some_body}
@@ -111,7 +111,7 @@ remove_shows request =
 bulk_shows : (index : Option (List ℕ)) (request : Request) → Shows (bulk_asked index request)
 bulk_shows index request =
     then_shows (read_params (key.Refresh ∷ []) request.query) _ (λ values. then_shows (some_body request) _ (λ some.
-    then_shows (checked (items_of index request.body)) _ (λ items. tt)))
+    then_shows (checked (actions_of index request.body)) _ (λ items. tt)))
 
 index_bulk_shows : (request : Request) → Shows (index_bulk_asked request)
 index_bulk_shows request = then_shows (index_in request) _ (λ index. bulk_shows (Some index) request)

@@ -1,29 +1,39 @@
 -- The items of a body, one after the other.
-use Rattle.std.proofs.Common.{◌≡◌, refl, sym, ap, ◌∙◌, ℕ, zero, suc, ◌+◌, ◌<◌, ◌≤◌, List, [], ◌∷◌, length, Option, Some, None, Result, Ok, Err, arith}
-use Rattle.std.specs.Prelude.{Bool, true, false, if◌then◌else◌}
+use Rattle.std.proofs.Common.{◌≡◌, refl, sym, ap, subst, ◌∙◌, ℕ, zero, suc, ◌+◌, ◌<◌, ◌≤◌, List, [], ◌∷◌, ◌++◌, length, Option, Some, None, Result, Ok, Err, append_assoc, arith}
+use Rattle.std.specs.Prelude.{All, Bool, true, false, if◌then◌else◌}
+use Rattle.std.proofs.lemmas.List.{append-nil}
+use Rattle.std.proofs.lemmas.List.Elements.{All-nil, All-cons, All-append}
 use Rattle.es_types.specs.Name.{is_doc_id, is_index_name}
 use Rattle.list_machine.specs.declared.event.Change.{Change}
 use Rattle.list_machine.specs.declared.event.Event.{Event}
 use Rattle.list_machine.specs.declared.event.Event.TheVariants.{Write}
 use Rattle.es_types.specs.declared.limit.LimitName.TheVariants as limit
+use Rattle.doc_json.specs.declared.bulk.BulkAction.{BulkAction}
 use Rattle.doc_json.specs.declared.bulk.BulkItem.{BulkItem}
 use Rattle.doc_json.specs.declared.fault.BodyFault.{BodyFault}
 use Rattle.doc_json.specs.declared.fault.BodyFault.TheVariants as bad
-use Rattle.doc_json.specs.Bulks.{item_at}
+use Rattle.doc_json.specs.Bulks.{LiesIn, action_at, item_at, item_by, item_of}
 use Rattle.reply_json.specs.declared.fault.RestFault.{RestFault}
 use Rattle.es_route.specs.Limits.{body_fault, both, told}
-use Rattle.es_route.specs.Items.{item_and_more, items_from, items_of, onto, read_change, write_of, write_with, checked}
+use Rattle.es_route.specs.Items.{AreActions, actions_of, all_from, and_more, checked, items_of, items_with, onto, read_change, write_of, write_with}
 use Rattle.es_route.specs.Answers.{Answers, and_then}
 
--- the fault of the items after one is that of all
-checked-onto : (item : BulkItem) (items : Result (List BulkItem) BodyFault) → checked (onto item items) ≡ checked items
-checked-onto item (Ok items) = refl
-checked-onto item (Err fault) = refl
+-- what was taken so far, before what stands from there on
+abbrev pub before : List BulkAction → Result (List BulkAction) BodyFault → Result (List BulkAction) BodyFault
+before done (Ok rest) = Ok (done ++ rest)
+before done (Err fault) = Err fault
 
-onto-ok : (item : BulkItem) (r : Result (List BulkItem) BodyFault) (items : List BulkItem) → onto item r ≡ Ok items
-    → (rest : List BulkItem) × (r ≡ Ok rest) × (items ≡ item ∷ rest)
-onto-ok item (Ok rest) items e = (rest, refl, cc)
-onto-ok item (Err fault) items e = absurd (cc)
+before-none : (r : Result (List BulkAction) BodyFault) → before [] r ≡ r
+before-none (Ok rest) = refl
+before-none (Err fault) = refl
+
+before-onto : (done : List BulkAction) (action : BulkAction) (r : Result (List BulkAction) BodyFault) → before done (onto action r) ≡ before (done ++ action ∷ []) r
+before-onto done action (Ok rest) = ap Ok (sym (append_assoc done (action ∷ []) rest))
+before-onto done action (Err fault) = refl
+
+checked_ok : (r : Result (List BulkAction) BodyFault) (actions : List BulkAction) → checked r ≡ Ok actions → r ≡ Ok actions
+checked_ok (Ok read) actions is = cc
+checked_ok (Err fault) actions is = absurd (let e : Err (body_fault fault) ≡ Ok actions = is in cc)
 
 -- there is more to go through as long as the body doesn't end
 more_fuel : (long at most : ℕ) → at ≤ long → long < at + most → (fuel : ℕ) × (most ≡ suc fuel)
@@ -33,44 +43,59 @@ more_fuel long at (suc fuel) within room = (fuel, refl)
 shorter : (long at next most fuel : ℕ) → long < at + most → most ≡ suc fuel → at < next → long < next + fuel
 shorter long at next most fuel room is on = omega (arith, room, is, on)
 
--- what stands from a byte on, by what stands there
-from_byte : (index : Option (List ℕ)) (body : List ℕ) (at most fuel : ℕ) (found : Result (Option BulkItem) BodyFault) → most ≡ suc fuel → item_at index body at ≡ found
-    → items_from most index body at ≡ item_and_more (items_from fuel index body) found
-from_byte index body at most fuel found is there =
-    ap (λ (m : ℕ). items_from m index body at) is ∙ ap (item_and_more (items_from fuel index body)) there
+-- all actions from a byte on, at most so many
+abbrev pub from : Option (List ℕ) → List ℕ → ℕ → ℕ → Result (List BulkAction) BodyFault
+from index body most at = all_from (λ (action : BulkAction). action.next) (action_at index body) most at
 
--- the fault of the items from a byte on is that of all
-pub record Walked (index : Option (List ℕ)) (body : List ℕ) (at : ℕ) : Type 0 where
+-- what stands from a byte on, by what stands there
+from_byte : (index : Option (List ℕ)) (body : List ℕ) (at most fuel : ℕ) (found : Result (Option BulkAction) BodyFault) → most ≡ suc fuel → action_at index body at ≡ found
+    → from index body most at ≡ and_more (λ (action : BulkAction). action.next) (from index body fuel) found
+from_byte index body at most fuel found is there =
+    ap (λ (m : ℕ). from index body m at) is ∙ ap (and_more (λ (action : BulkAction). action.next) (from index body fuel)) there
+
+-- the actions of a body are those that were taken so far, and those from a byte on
+pub record Walked (index : Option (List ℕ)) (body : List ℕ) (at : ℕ) (done : List BulkAction) : Type 0 where
   pub most : ℕ
   pub room : length body < at + most
   pub within : at ≤ length body
-  pub left : checked (items_of index body) ≡ checked (items_from most index body at)
+  pub left : actions_of index body ≡ before done (from index body most at)
+  pub lie : All (LiesIn body) done
 
-pub walk_starts : (index : Option (List ℕ)) (body : List ℕ) → Walked index body 0
-unfolding items_of
-walk_starts index body = record { most = suc (length body); room = omega arith; within = omega arith; left = refl }
+pub walk_starts : (index : Option (List ℕ)) (body : List ℕ) (done : List BulkAction) → done ≡ [] → Walked index body 0 done
+unfolding actions_of
+walk_starts index body done none =
+    subst (Walked index body 0) (sym none)
+    (record {
+      most = suc (length body);
+      room = omega arith;
+      within = omega arith;
+      left = sym (before-none (from index body (suc (length body)) 0));
+      lie = All-nil (LiesIn body);
+    })
 
-pub walk_next : (index : Option (List ℕ)) (body : List ℕ) (at : ℕ) (item : BulkItem) → item_at index body at ≡ Ok (Some item) → at < item.next → item.next ≤ length body
-    → Walked index body at → Walked index body item.next
-walk_next index body at item there on within w =
+pub walk_next : (index : Option (List ℕ)) (body : List ℕ) (at : ℕ) (action : BulkAction) (done now : List BulkAction) → action_at index body at ≡ Ok (Some action) → at < action.next → action.next ≤ length body
+    → LiesIn body action → now ≡ done ++ action ∷ [] → Walked index body at done → Walked index body action.next now
+walk_next index body at action done now there on within lies grown w =
     let fuel = more_fuel (length body) at w.most w.within w.room in
-    record {
+    subst (Walked index body action.next) (sym grown)
+    (record {
       most = fuel.0;
-      room = shorter (length body) at item.next w.most fuel.0 w.room fuel.1 on;
+      room = shorter (length body) at action.next w.most fuel.0 w.room fuel.1 on;
       within = within;
-      left = w.left ∙ ap checked (from_byte index body at w.most fuel.0 (Ok (Some item)) fuel.1 there) ∙ checked-onto item (items_from fuel.0 index body item.next);
-    }
+      left = w.left ∙ ap (before done) (from_byte index body at w.most fuel.0 (Ok (Some action)) fuel.1 there) ∙ before-onto done action (from index body fuel.0 action.next);
+      lie = All-append (LiesIn body) done (action ∷ []) w.lie (All-cons (LiesIn body) action [] lies (All-nil (LiesIn body)));
+    })
 
 -- at the end of the body, or at a fault
-pub walk_ends : (index : Option (List ℕ)) (body : List ℕ) (at : ℕ) → item_at index body at ≡ Ok None → Walked index body at → checked (items_of index body) ≡ Ok tt
-walk_ends index body at there w =
+pub walk_ends : (index : Option (List ℕ)) (body : List ℕ) (at : ℕ) (done : List BulkAction) → action_at index body at ≡ Ok None → Walked index body at done → actions_of index body ≡ Ok done
+walk_ends index body at done there w =
     let fuel = more_fuel (length body) at w.most w.within w.room in
-    w.left ∙ ap checked (from_byte index body at w.most fuel.0 (Ok None) fuel.1 there)
+    w.left ∙ ap (before done) (from_byte index body at w.most fuel.0 (Ok None) fuel.1 there) ∙ ap Ok (append-nil done)
 
-pub walk_fails : (index : Option (List ℕ)) (body : List ℕ) (at : ℕ) (fault : BodyFault) → item_at index body at ≡ Err fault → Walked index body at → checked (items_of index body) ≡ Err (body_fault fault)
-walk_fails index body at fault there w =
+pub walk_fails : (index : Option (List ℕ)) (body : List ℕ) (at : ℕ) (done : List BulkAction) (fault : BodyFault) → action_at index body at ≡ Err fault → Walked index body at done → checked (actions_of index body) ≡ Err (body_fault fault)
+walk_fails index body at done fault there w =
     let fuel = more_fuel (length body) at w.most w.within w.room in
-    w.left ∙ ap checked (from_byte index body at w.most fuel.0 (Err fault) fuel.1 there)
+    ap checked (w.left ∙ ap (before done) (from_byte index body at w.most fuel.0 (Err fault) fuel.1 there))
 
 -- such a fault is what is told
 pub fault_told : {A : Type 0} (fault : BodyFault) (asked : Result A RestFault) → asked ≡ Err (body_fault fault) → Answers (Err (body_fault fault)) asked
@@ -79,40 +104,43 @@ fault_told bad.Shape asked is = is
 fault_told (bad.Limit name) asked is = is
 fault_told bad.BadId asked is = is
 
--- these items stand from a byte on
-pub record Ahead (index : Option (List ℕ)) (body : List ℕ) (at : ℕ) (left : List BulkItem) : Type 0 where
-  pub most : ℕ
-  pub room : length body < at + most
-  pub within : at ≤ length body
-  pub are : items_from most index body at ≡ Ok left
+-- ---- items and their actions
 
-pub ahead_starts : (index : Option (List ℕ)) (body : List ℕ) (all : List BulkItem) → items_of index body ≡ Ok all → Ahead index body 0 all
-unfolding items_of
-ahead_starts index body all are = record { most = suc (length body); room = omega arith; within = omega arith; are = are }
+-- the items that actions are, or the same fault
+abbrev with_lines : List ℕ → Result (List BulkAction) BodyFault → Result (List BulkItem) BodyFault
+with_lines body (Ok actions) = Ok (items_with body actions)
+with_lines body (Err fault) = Err fault
 
-pub ahead_next : (index : Option (List ℕ)) (body : List ℕ) (at : ℕ) (left : List BulkItem) (item : BulkItem) → item_at index body at ≡ Ok (Some item) → at < item.next → item.next ≤ length body
-    → Ahead index body at left → (rest : List BulkItem) × (left ≡ item ∷ rest) × Ahead index body item.next rest
-ahead_next index body at left item there on within w =
-    let fuel = more_fuel (length body) at w.most w.within w.room in
-    let rest = onto-ok item (items_from fuel.0 index body item.next) left (sym (from_byte index body at w.most fuel.0 (Ok (Some item)) fuel.1 there) ∙ w.are) in
-    (rest.0, rest.2, record { most = fuel.0; room = shorter (length body) at item.next w.most fuel.0 w.room fuel.1 on; within = within; are = rest.1 })
+lines-onto : (body : List ℕ) (action : BulkAction) (r : Result (List BulkAction) BodyFault) → onto (item_of body action) (with_lines body r) ≡ with_lines body (onto action r)
+lines-onto body action (Ok rest) = refl
+lines-onto body action (Err fault) = refl
 
-pub same_items : (r : Result (List BulkItem) BodyFault) (a b : List BulkItem) → r ≡ Ok a → r ≡ Ok b → a ≡ b
-same_items r a b x y = cc
+-- the items from a byte on, at most so many
+abbrev items_from : Option (List ℕ) → List ℕ → ℕ → ℕ → Result (List BulkItem) BodyFault
+items_from index body most at = all_from (λ (item : BulkItem). item.next) (item_at index body) most at
 
-none_left : (r : Result (List BulkItem) BodyFault) (left : List BulkItem) → r ≡ Ok [] → r ≡ Ok left → left ≡ []
-none_left r left a b = cc
+lines-more : (index : Option (List ℕ)) (body : List ℕ) (most : ℕ) (found : Result (Option BulkAction) BodyFault)
+    → ((at : ℕ) → items_from index body most at ≡ with_lines body (from index body most at))
+    → and_more (λ (item : BulkItem). item.next) (items_from index body most) (item_by body found)
+    ≡ with_lines body (and_more (λ (action : BulkAction). action.next) (from index body most) found)
+lines-more index body most (Err fault) same = refl
+lines-more index body most (Ok None) same = refl
+lines-more index body most (Ok (Some action)) same =
+    ap (onto (item_of body action)) (same action.next) ∙ lines-onto body action (from index body most action.next)
 
-pub ahead_ends : (index : Option (List ℕ)) (body : List ℕ) (at : ℕ) (left : List BulkItem) → item_at index body at ≡ Ok None → Ahead index body at left → left ≡ []
-ahead_ends index body at left there w =
-    let fuel = more_fuel (length body) at w.most w.within w.room in
-    none_left (items_from w.most index body at) left (from_byte index body at w.most fuel.0 (Ok None) fuel.1 there) w.are
+lines-from : (index : Option (List ℕ)) (body : List ℕ) (most at : ℕ) → items_from index body most at ≡ with_lines body (from index body most at)
+unfolding item_at
+lines-from index body zero at = refl
+lines-from index body (suc most) at = lines-more index body most (action_at index body at) (λ other. lines-from index body most other)
 
-pub ahead_never_fails : (index : Option (List ℕ)) (body : List ℕ) (at : ℕ) (left : List BulkItem) (fault : BodyFault) → item_at index body at ≡ Err fault → Ahead index body at left → ⊥
-ahead_never_fails index body at left fault there w =
-    let fuel = more_fuel (length body) at w.most w.within w.room in
-    let e : Err fault ≡ Ok left = sym (from_byte index body at w.most fuel.0 (Err fault) fuel.1 there) ∙ w.are in
-    absurd (cc)
+-- the items of a body are those of its actions
+pub lines_of_actions : (index : Option (List ℕ)) (body : List ℕ) (actions : List BulkAction) → actions_of index body ≡ Ok actions → items_of index body ≡ Ok (items_with body actions)
+unfolding items_of actions_of
+lines_of_actions index body actions are = lines-from index body (suc (length body)) 0 ∙ ap (with_lines body) are
+
+-- actions that were taken of a body
+pub taken : (index : Option (List ℕ)) (body : List ℕ) (actions : List BulkAction) → checked (actions_of index body) ≡ Ok actions → All (LiesIn body) actions → AreActions index body actions
+taken index body actions are lie = record { items = lines_of_actions index body actions (checked_ok (actions_of index body) actions are); within = lie }
 
 name_by : (index id : List ℕ) (change : Change) (name named : Bool) (event : Event)
     → and_then (told (both (if name then Ok index else Err limit.Index) (if named then Ok id else Err limit.Id))) (λ it. Ok (Write it.0 it.1 change)) ≡ Ok event → name ≡ true

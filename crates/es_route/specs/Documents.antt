@@ -17,7 +17,7 @@ use Rattle.es_route.specs.declared.values.Key.TheVariants as key
 use Rattle.es_route.specs.Values.{read_params}
 use Rattle.es_route.specs.Limits.{body_fault, first_with, index_name, named, told}
 use Rattle.es_route.specs.Bodies.{no_body, some_body}
-use Rattle.es_route.specs.Items.{checked, items_of}
+use Rattle.es_route.specs.Items.{actions_of, checked}
 
 -- a body that isn't one comes before all limits
 abbrev pub create_of : List ℕ → Result IndexSpec BodyFault → Result Ask RestFault
@@ -51,7 +51,7 @@ remove_asked request =
 abbrev pub bulk_asked : Option (List ℕ) → Request → Result Ask RestFault
 bulk_asked index request =
     and_then (read_params (key.Refresh ∷ []) request.query) (λ values. and_then (some_body request) (λ some.
-    and_then (checked (items_of index request.body)) (λ items. Ok (ask.Bulk index request.body (unwrap_or values.refresh false)))))
+    and_then (checked (actions_of index request.body)) (λ items. Ok (ask.Bulk index request.body (unwrap_or values.refresh false) items))))
 
 abbrev pub index_bulk_asked : Request → Result Ask RestFault
 index_bulk_asked request = and_then (index_in request) (λ index. bulk_asked (Some index) request)

@@ -3,7 +3,6 @@ use Rattle.std.specs.Prelude.{◌≡◌, ℕ, Bool, true, false, if◌then◌els
 use Rattle.es_types.specs.declared.limit.LimitName.TheVariants as limit
 use Rattle.ctx_ids.specs.declared.id.ContextId.{ContextId}
 use Rattle.http_wire.specs.declared.request.Request.{Request}
-use Rattle.doc_json.specs.declared.bulk.BulkItem.{BulkItem}
 use Rattle.list_machine.specs.Objects.{IsObject}
 use Rattle.list_machine.specs.Pages.{shows_place}
 use Rattle.list_machine.specs.Run.{IsBounded}
@@ -21,7 +20,7 @@ use Rattle.es_route.specs.Moments.{is_unreadable}
 use Rattle.es_route.specs.Resources.{resource_of}
 use Rattle.es_route.specs.Paths.{is_own_word, part}
 use Rattle.es_route.specs.Methods.{built, gets_or_posts, is_method, puts_or_posts}
-use Rattle.es_route.specs.Items.{items_of}
+use Rattle.es_route.specs.Items.{AreActions}
 use Rattle.es_route.specs.Documents.{bulk_asked, create_asked, index_bulk_asked, put_asked, refresh_asked, remove_asked}
 use Rattle.es_route.specs.Pits.{closing_asked, opening_asked}
 use Rattle.es_route.specs.Searches.{check_search, search_asked}
@@ -66,12 +65,13 @@ asked_when unreadable asked = if unreadable then moment_first asked else asked
 unfoldable pub asked_of : Request → Result Ask RestFault
 asked_of request = asked_when (is_unreadable request) (asked_at request (resource_of request.path))
 
--- what is asked for may be asked: an index of 1 to 1,024 shards, a put of a JSON object, a bulk of items, a search within its limits
+-- what is asked for may be asked: an index of 1 to 1,024 shards, a put of a JSON object, a bulk with the items of its body, a search
+-- within its limits
 abbrev pub AsksSound : Ask → Type 0
 AsksSound (ask.Create index spec) = IsBounded (event.Create index spec.shards spec.mapping)
 AsksSound (ask.Search target request sent) = IsBounded (event.Search target request)
 AsksSound (ask.Put index id doc refresh) = IsObject doc.source
-AsksSound (ask.Bulk index body refresh) = (items : List BulkItem) × (items_of index body ≡ Ok items)
+AsksSound (ask.Bulk index body refresh items) = AreActions index body items
 AsksSound other = Unit {0}
 
 -- a request that searches a point in time asks for the place of each hit

@@ -1,7 +1,7 @@
 //! What requests ask for.
 use ctx_ids::ContextId;
-use doc_json::IndexSpec;
-use es_types::{Bytes, Doc, DocId, IndexName, KeepAlive, Text};
+use doc_json::{BulkAction, IndexSpec};
+use es_types::{Bytes, Doc, DocId, IndexName, Items, KeepAlive, Text};
 use list_machine::{SearchRequest, Target};
 
 /// What a request asks for, with the values that it gives.
@@ -22,11 +22,12 @@ pub enum Ask {
         id: DocId,
         refresh: bool,
     },
-    /// `index` is that of the items that name none.
+    /// `index` is that of the items that name none, and `items` are the actions of the body, in their order.
     Bulk {
         index: Option<Text>,
         body: Bytes,
         refresh: bool,
+        items: Items<BulkAction>,
     },
     Refresh {
         index: IndexName,

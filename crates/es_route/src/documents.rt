@@ -8,12 +8,12 @@ ghost use Rattle.es_route.specs.Route.{AsksSound};
 
 use crate::ask::Ask;
 use crate::bodies::{no_body, some_body};
-use crate::items::check_items;
+use crate::items::actions_of;
 use crate::limits::{body_fault, first_with, index_name, named, told};
 use crate::paths::{id_in, index_in};
 use crate::values::{Key, read_params};
 use doc_json::{BodyFault, read_doc, read_index};
-use es_types::{Bytes, Copied, Fail, Text};
+use es_types::{Fail, Text};
 use http_wire::Request;
 use reply_json::RestFault;
 use std::alloc::Global;
@@ -103,29 +103,37 @@ pub fn remove_asked(alloc: Global, request: &Request) -> Result<Ask, RestFault>
     remove_of(index, id, refresh)
 }
 
-/// What a bulk asks for; `index` is that of the items that name none.
-pub fn bulk_asked(alloc: Global, index: Option<Text>, request: &Request) -> Result<Ask, RestFault>
-    ensures answer { Answers result (bulk_asked index request.now) }
+/// What a bulk asks for; `index` is that of the items that name none. The body is moved.
+pub fn bulk_asked(alloc: Global, index: Option<Text>, request: Request) -> Result<Ask, RestFault>
+    ensures answer { Answers result (bulk_asked index request) }
     ensures sound { IfOk result AsksSound }
 {
-    let values = read_params(alloc, &[Key::Refresh], request)?;
+    let values = read_params(alloc, &[Key::Refresh], &request)?;
     let refresh = values.refresh.unwrap_or(false);
-    some_body(request)?;
-    check_items(alloc, index.as_ref(), request.body.as_slice())?;
-    let body = Bytes::copy(&request.body, alloc)?;
+    some_body(&request)?;
+    let items = actions_of(alloc, index.as_ref(), request.body.as_slice())?;
+    let Request {
+        method: _,
+        path: _,
+        query: _,
+        moment: _,
+        body,
+        last: _,
+    } = request;
     Ok(Ask::Bulk {
         index,
         body,
         refresh,
+        items,
     })
 }
 
 /// What a bulk asks for whose path names an index.
-pub fn index_bulk_asked(alloc: Global, request: &Request) -> Result<Ask, RestFault>
-    ensures answer { Answers result (index_bulk_asked request.now) }
+pub fn index_bulk_asked(alloc: Global, request: Request) -> Result<Ask, RestFault>
+    ensures answer { Answers result (index_bulk_asked request) }
     ensures sound { IfOk result AsksSound }
 {
-    let index = index_in(alloc, request)?;
+    let index = index_in(alloc, &request)?;
     bulk_asked(alloc, Some(index), request)
 }
 

@@ -33,56 +33,56 @@ fn doc_asked(alloc: Global, request: &Request) -> Result<Ask, RestFault>
 }
 
 // What a request of a route that begins with an index asks for.
-fn indexed(alloc: Global, request: &Request, resource: Resource) -> Result<Ask, RestFault>
-    ensures answer { Answers result (asked_at_index request.now resource) }
+fn indexed(alloc: Global, request: Request, resource: Resource) -> Result<Ask, RestFault>
+    ensures answer { Answers result (asked_at_index request resource) }
     ensures sound { IfOk result AsksSound }
 {
     match resource {
         Resource::Index => {
-            check_built(alloc, is_method("PUT", request), request)?;
-            create_asked(alloc, request)
+            check_built(alloc, is_method("PUT", &request), &request)?;
+            create_asked(alloc, &request)
         }
-        Resource::Doc => doc_asked(alloc, request),
+        Resource::Doc => doc_asked(alloc, &request),
         Resource::IndexBulk => {
-            check_built(alloc, puts_or_posts(request), request)?;
+            check_built(alloc, puts_or_posts(&request), &request)?;
             index_bulk_asked(alloc, request)
         }
         Resource::Refresh => {
-            check_built(alloc, gets_or_posts(request), request)?;
-            refresh_asked(alloc, request)
+            check_built(alloc, gets_or_posts(&request), &request)?;
+            refresh_asked(alloc, &request)
         }
         Resource::IndexSearch => {
-            check_search(alloc, true, request)?;
-            search_asked(alloc, true, request)
+            check_search(alloc, true, &request)?;
+            search_asked(alloc, true, &request)
         }
         Resource::OpenPit => {
-            check_built(alloc, is_method("POST", request), request)?;
-            opening_asked(alloc, request)
+            check_built(alloc, is_method("POST", &request), &request)?;
+            opening_asked(alloc, &request)
         }
         _ => Err(RestFault::NotBuilt),
     }
 }
 
-fn asked_at(alloc: Global, request: &Request, resource: Option<Resource>) -> Result<Ask, RestFault>
-    ensures answer { Answers result (asked_at request.now resource) }
+fn asked_at(alloc: Global, request: Request, resource: Option<Resource>) -> Result<Ask, RestFault>
+    ensures answer { Answers result (asked_at request resource) }
     ensures sound { IfOk result AsksSound }
 {
     match resource {
         None => Err(RestFault::NotBuilt),
         Some(Resource::Bulk) => {
-            check_built(alloc, puts_or_posts(request), request)?;
+            check_built(alloc, puts_or_posts(&request), &request)?;
             bulk_asked(alloc, None, request)
         }
         Some(Resource::Search) => {
-            check_search(alloc, false, request)?;
-            search_asked(alloc, false, request)
+            check_search(alloc, false, &request)?;
+            search_asked(alloc, false, &request)
         }
         Some(Resource::ClosePit) => {
-            check_built(alloc, is_method("DELETE", request), request)?;
-            closing_asked(alloc, request)
+            check_built(alloc, is_method("DELETE", &request), &request)?;
+            closing_asked(alloc, &request)
         }
         Some(resource) => {
-            if is_own_word(request) {
+            if is_own_word(&request) {
                 return Err(RestFault::NotBuilt);
             }
             indexed(alloc, request, resource)
@@ -103,14 +103,16 @@ fn moment_first(asked: Result<Ask, RestFault>) -> Result<Ask, RestFault>
     }
 }
 
-/// What a request asks for by these routes, or the first refusal that it meets.
-pub fn routed(alloc: Global, router: &Router<Resource>, request: &Request) -> Result<Ask, RestFault>
+/// What a request asks for by these routes, or the first refusal that it meets. A bulk keeps the request's body.
+pub fn routed(alloc: Global, router: &Router<Resource>, request: Request) -> Result<Ask, RestFault>
     requires { router.now ≡ all_routes }
-    ensures answer { Answers result (asked_of request.now) }
+    ensures answer { Answers result (asked_of request) }
     ensures sound { IfOk result AsksSound }
 {
-    let asked = asked_at(alloc, request, resource_of(router, request.path.as_str()));
-    if is_unreadable(request) {
+    let unreadable = is_unreadable(&request);
+    let resource = resource_of(router, request.path.as_str());
+    let asked = asked_at(alloc, request, resource);
+    if unreadable {
         moment_first(asked)
     } else {
         asked
@@ -118,8 +120,8 @@ pub fn routed(alloc: Global, router: &Router<Resource>, request: &Request) -> Re
 }
 
 /// What a request asks for, or the first refusal that it meets. It makes the routes anew; a connection makes them once.
-pub fn route(alloc: Global, request: &Request) -> Result<Ask, RestFault>
-    ensures answer { Answers result (asked_of request.now) }
+pub fn route(alloc: Global, request: Request) -> Result<Ask, RestFault>
+    ensures answer { Answers result (asked_of request) }
     ensures sound { IfOk result AsksSound }
 {
     let router = routes(alloc)?;

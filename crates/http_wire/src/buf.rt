@@ -12,6 +12,9 @@ use std::marker::Model;
 /// The length of the first buffer.
 const FIRST_LEN: usize = 16_384;
 
+/// An emptied buffer that is longer gives its memory back.
+const KEPT_LEN: usize = 1_048_576;
+
 /// The bytes that were taken from a link and not yet used. A connection gives at most 2^30 bytes.
 #[derive(Drop)]
 pub struct Buf {
@@ -53,8 +56,9 @@ impl Buf {
         &self.bytes.as_slice()[self.start..self.end]
     }
 
-    /// Lets go of so many first bytes.
-    pub(crate) fn advance(&mut self, count: usize)
+    /// Lets go of so many first bytes. Where none is left, a long buffer gives its memory back; a further long request
+    /// makes it longer anew, in time linear in its own length.
+    pub(crate) fn advance(&mut self, alloc: Global, count: usize)
         requires { count ≤ length self.old.bytes }
         ensures { self.new ≡ record { bytes = drop count self.old.bytes; room = self.old.room } }
     {
@@ -62,6 +66,9 @@ impl Buf {
         if self.start == self.end {
             self.start = 0;
             self.end = 0;
+            if self.bytes.len() > KEPT_LEN {
+                self.bytes = Vec::new(alloc);
+            }
         }
     }
 }

@@ -57,7 +57,7 @@ pub fn next_request<L: Link>(
     }
     match cut(alloc, buf.held(), long, &head) {
         Some(request) => {
-            buf.advance(long + head.body);
+            buf.advance(alloc, long + head.body);
             Ok(Some(request))
         }
         None => Err(WireEnd::NoMemory),

@@ -1,90 +1,105 @@
 -- One item after the other.
-use Rattle.std.proofs.Common.{refl, ap, subst, ◌∙◌, ℕ, List, ◌∷◌, option_map, Ok}
+use Rattle.std.proofs.Common.{◌≡◌, refl, sym, ap, subst, ◌∙◌, ℕ, List, [], ◌∷◌, length, arith}
+use Rattle.std.specs.Prelude.{All}
+use Rattle.std.specs.Vec.Iter.{into_iter_items}
+use Rattle.std.proofs.lemmas.List.Elements.{All-head, All-tail}
 use Rattle.std.proofs.lemmas.Result.{err_from_is_err_and}
+use Rattle.doc_json.specs.Bulks.{LiesIn, item_of}
+use Rattle.doc_json.specs.declared.bulk.BulkAction.{BulkAction}
 use Rattle.list_machine.specs.declared.event.Limits.{Limits}
-use Rattle.doc_json.specs.declared.bulk.BulkItem.{BulkItem}
-use Rattle.es_route.specs.Items.{items_of}
-use Rattle.es_rest.specs.Led.{BulkCut, ItemCut, ItemDone, ItemsDone}
-use Rattle.es_route.proofs.Walks.{ahead_ends, ahead_next, ahead_starts, same_items}
-use Rattle.es_rest.proofs.Bulks.{Gone, gone_all, gone_cut, gone_done, gone_none, gone_so_far}
+use Rattle.es_route.specs.Items.{items_with}
+use Rattle.es_rest.specs.Led.{ItemCut, ItemDone}
+use Rattle.es_rest.proofs.Bulks.{Gone, gone_all, gone_cut, gone_done, gone_none, none_left}
 use Rattle.es_rest.proofs.Led.{by_names}
 use Rattle.es_rest.proofs.bulk.write_items.Goals as goal
 
-pub items-init : goal.items-init
-items-init g c =
+pub loop-action-init : goal.loop-action-init
+loop-action-init g c =
     let s = g.V.Service in
+    let limits = s.limits c.args.service.now in
+    let seat = s.seat c.args.service.now in
+    let old = s.front c.args.service.now in
+    let body = c.args.body.now in
+    let all = items_with body c.args.items.items in
+    let written = record { lines = c.new.result; changed = c.make.result } in
+    let first = c.into_iter-action-iterator.ensures.into_iter_gives in
     record {
-      all = c.requires.0;
-      all_are = c.requires.1;
-      left = c.requires.0;
-      ahead = ahead_starts (option_map (λ name. name.now) c.args.index) c.args.body.now c.requires.0 c.requires.1;
-      gone = gone_none (s.limits c.args.service.now) (s.seat c.args.service.now) c.args.moment c.requires.0 (s.front c.args.service.now) (record { lines = c.new.result; changed = c.make.result }) c.new.ensures.items c.make.ensures;
+      gone = subst (λ (l : List BulkAction). Gone limits seat c.args.moment all old old written (items_with body l)) (sym first.0)
+          (gone_none limits seat c.args.moment all old written c.new.ensures.items c.make.ensures);
+      within = subst (All (LiesIn body)) (sym first.0) c.requires;
+      counted = first.1 ∙ (c.args.items.len ∙ ap length (sym first.0));
       seat = refl;
       limits = refl;
     }
 
-pub items-preserved : goal.items-preserved
-items-preserved g c =
+pub write_item-requires : goal.write_item-requires
+write_item-requires g c =
+    let at = c.loop-action in
+    let next : List BulkAction = into_iter_items c.next.new.self in
+    let steps : into_iter_items at.action-iterator ≡ c.in-Some.action ∷ next = c.in-Some.ensures.steps.0 in
+    All-head (LiesIn c.args.body.now) c.in-Some.action next (subst (All (LiesIn c.args.body.now)) steps at.invariant.within)
+
+pub loop-action-preserved : goal.loop-action-preserved
+loop-action-preserved g c =
     let s = g.V.Service in
-    let inv = c.items.invariant in
+    let at = c.loop-action in
+    let inv = at.invariant in
     let limits = s.limits c.args.service.now in
     let seat = s.seat c.args.service.now in
     let old = s.front c.args.service.now in
-    let now = s.front c.items.service in
+    let now = s.front at.service in
     let new = s.front c.write_item.new.service in
-    let item = c.in-Ok-Some.item in
-    let on = rw c.in-Ok-Some.field-0-is at c.in-Ok-Some.ensures.onward in
-    let next = ahead_next (option_map (λ name. name.now) c.args.index) c.args.body.now c.items.at inv.left item (c.in-Ok-Some.ensures.answer ∙ ap Ok c.in-Ok-Some.field-0-is) on.0 on.1 inv.ahead in
-    let gone = subst (λ (l : List BulkItem). Gone limits seat c.args.moment inv.all old now c.items.written l) {y = item ∷ next.0} next.1 inv.gone in
-    let done = by_names inv.limits inv.seat (λ (k : Limits) (i : ℕ). ItemDone k i c.args.moment now new item c.items.written c.write_item.new.written) c.in_ok-write_item-in-Ok-Some.ensures.item in
+    let body = c.args.body.now in
+    let all = items_with body c.args.items.items in
+    let action = c.in-Some.action in
+    let next : List BulkAction = into_iter_items c.next.new.self in
+    let steps : into_iter_items at.action-iterator ≡ action ∷ next = c.in-Some.ensures.steps.0 in
+    let gone = subst (λ (l : List BulkAction). Gone limits seat c.args.moment all old now at.written (items_with body l)) steps inv.gone in
+    let done = by_names inv.limits inv.seat (λ (k : Limits) (i : ℕ). ItemDone k i c.args.moment now new (item_of body action) at.written c.write_item.new.written) c.in_ok-write_item.ensures.item in
     record {
-      all = inv.all;
-      all_are = inv.all_are;
-      left = next.0;
-      ahead = next.2;
-      gone = gone_done limits seat c.args.moment inv.all old now new c.items.written c.write_item.new.written item next.0 gone done;
-      seat = c.in_ok-write_item-in-Ok-Some.ensures.seat ∙ inv.seat;
-      limits = c.in_ok-write_item-in-Ok-Some.ensures.limits ∙ inv.limits;
+      gone = gone_done limits seat c.args.moment all old now new at.written c.write_item.new.written (item_of body action) (items_with body next) gone done;
+      within = All-tail (LiesIn body) action next (subst (All (LiesIn body)) steps inv.within);
+      counted =
+          let was = inv.counted in
+          let gone_by = c.in-Some.ensures.steps.1 in
+          let short = ap length steps in
+          omega arith;
+      seat = c.in_ok-write_item.ensures.seat ∙ inv.seat;
+      limits = c.in_ok-write_item.ensures.limits ∙ inv.limits;
     }
 
-pub returns-in_err-write_item-in-Ok-Some-clause-items : goal.returns-in_err-write_item-in-Ok-Some-clause-items
-returns-in_err-write_item-in-Ok-Some-clause-items g c items are =
+pub returns-in_err-write_item-clause-items : goal.returns-in_err-write_item-clause-items
+returns-in_err-write_item-clause-items g c =
     let s = g.V.Service in
-    let inv = c.items.invariant in
+    let at = c.loop-action in
+    let inv = at.invariant in
     let limits = s.limits c.args.service.now in
     let seat = s.seat c.args.service.now in
     let old = s.front c.args.service.now in
-    let now = s.front c.items.service in
+    let now = s.front at.service in
     let new = s.front c.write_item.new.service in
-    let item = c.in-Ok-Some.item in
-    let on = rw c.in-Ok-Some.field-0-is at c.in-Ok-Some.ensures.onward in
-    let next = ahead_next (option_map (λ name. name.now) c.args.index) c.args.body.now c.items.at inv.left item (c.in-Ok-Some.ensures.answer ∙ ap Ok c.in-Ok-Some.field-0-is) on.0 on.1 inv.ahead in
-    let gone = subst (λ (l : List BulkItem). Gone limits seat c.args.moment inv.all old now c.items.written l) {y = item ∷ next.0} next.1 inv.gone in
-    let cut = by_names inv.limits inv.seat (λ (k : Limits) (i : ℕ). ItemCut k i c.args.moment now new item) c.in_err-write_item-in-Ok-Some.ensures.item in
+    let body = c.args.body.now in
+    let all = items_with body c.args.items.items in
+    let action = c.in-Some.action in
+    let next : List BulkAction = into_iter_items c.next.new.self in
+    let steps : into_iter_items at.action-iterator ≡ action ∷ next = c.in-Some.ensures.steps.0 in
+    let gone = subst (λ (l : List BulkAction). Gone limits seat c.args.moment all old now at.written (items_with body l)) steps inv.gone in
+    let cut = by_names inv.limits inv.seat (λ (k : Limits) (i : ℕ). ItemCut k i c.args.moment now new (item_of body action)) c.in_err-write_item.ensures.item in
     let p = err_from_is_err_and c.from_residual.result c.from_residual.ensures.1 in
-    rw p.1 (subst (λ (l : List BulkItem). BulkCut limits seat c.args.moment l old new) (same_items (items_of (option_map (λ name. name.now) c.args.index) c.args.body.now) inv.all items inv.all_are are)
-    (gone_cut limits seat c.args.moment inv.all old now new c.items.written item next.0 gone cut))
+    rw p.1 (gone_cut limits seat c.args.moment all old now new at.written (item_of body action) (items_with body next) gone cut)
 
-pub returns-in-Ok-None-clause-items : goal.returns-in-Ok-None-clause-items
-returns-in-Ok-None-clause-items g c items are =
+pub returns-clause-items : goal.returns-clause-items
+returns-clause-items g c =
     let s = g.V.Service in
-    let inv = c.items.invariant in
+    let at = c.loop-action in
+    let inv = at.invariant in
     let limits = s.limits c.args.service.now in
     let seat = s.seat c.args.service.now in
     let old = s.front c.args.service.now in
-    let new = s.front c.items.service in
-    let none = ahead_ends (option_map (λ name. name.now) c.args.index) c.args.body.now c.items.at inv.left (c.in-Ok-None.ensures.answer ∙ ap Ok c.in-Ok-None.field-0-is) inv.ahead in
-    let gone = subst (λ (l : List BulkItem). Gone limits seat c.args.moment inv.all old new c.items.written l) none inv.gone in
-    subst (λ (l : List BulkItem). ItemsDone limits seat c.args.moment l old new c.items.written) (same_items (items_of (option_map (λ name. name.now) c.args.index) c.args.body.now) inv.all items inv.all_are are)
-    (gone_all limits seat c.args.moment inv.all old new c.items.written gone)
-
-pub returns-in-Err-NoMemory-clause-items : goal.returns-in-Err-NoMemory-clause-items
-returns-in-Err-NoMemory-clause-items g c items are =
-    let s = g.V.Service in
-    let inv = c.items.invariant in
-    let limits = s.limits c.args.service.now in
-    let seat = s.seat c.args.service.now in
-    let old = s.front c.args.service.now in
-    let new = s.front c.items.service in
-    subst (λ (l : List BulkItem). BulkCut limits seat c.args.moment l old new) (same_items (items_of (option_map (λ name. name.now) c.args.index) c.args.body.now) inv.all items inv.all_are are)
-    (gone_so_far limits seat c.args.moment inv.all old new c.items.written inv.left inv.gone)
+    let now = s.front at.service in
+    let body = c.args.body.now in
+    let all = items_with body c.args.items.items in
+    let none = c.in-None.ensures.steps in
+    let empty : into_iter_items at.action-iterator ≡ [] = none_left (into_iter_items at.action-iterator) (sym inv.counted ∙ none.0) in
+    gone_all limits seat c.args.moment all old now at.written
+    (subst (λ (l : List BulkAction). Gone limits seat c.args.moment all old now at.written (items_with body l)) empty inv.gone)

@@ -6,4 +6,4 @@ pub returns-clause-answered : goal.returns-clause-answered
 returns-clause-answered g c =
     let s = g.V.Service in
     answered_by (s.limits c.args.service.now) (s.seat c.args.service.now) c.args.moment (s.front c.args.service.now) (s.front c.respond-response.new.service)
-    c.args.request.now c.respond-response.result c.words_of.result c.respond-response.ensures.responds c.words_of.ensures
+    c.args.request c.respond-response.result c.words_of.result c.respond-response.ensures.responds c.words_of.ensures
