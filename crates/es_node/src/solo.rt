@@ -101,10 +101,8 @@ fn advance(
 {
     journal.reserve(1)?;
     let turned = core.turn(&entry.event, entry.moment, Brought::Nothing)?;
-    match journal.push(Snapshot::of(&entry)) {
-        Ok(()) => Ok(turned),
-        Err(_) => unreachable!(),
-    }
+    journal.push_reserved(Snapshot::of(&entry));
+    Ok(turned)
 }
 
 // Lets go what is over, and writes down the Quiet of it. Nothing changes where memory runs out.
@@ -122,10 +120,8 @@ fn reap(core: &mut Core, journal: &mut Vec<Snapshot<Entry>>, moment: Moment) -> 
         moment,
         event: Event::Quiet,
     };
-    match journal.push(Snapshot::of(&entry)) {
-        Ok(()) => Ok(()),
-        Err(_) => unreachable!(),
-    }
+    journal.push_reserved(Snapshot::of(&entry));
+    Ok(())
 }
 
 impl Service for Solo {

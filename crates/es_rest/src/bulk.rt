@@ -61,7 +61,7 @@ impl Changed {
             return Ok(());
         }
         let Ok(name) = IndexName::make(index.copy(alloc)?) else {
-            unreachable!();
+            unreachable!("the name is that of an index");
         };
         let key = String::from_str(alloc, text)?;
         self.names.reserve(1)?;

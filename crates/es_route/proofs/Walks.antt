@@ -107,7 +107,7 @@ fault_told bad.BadId asked is = is
 -- ---- items and their actions
 
 -- the items that actions are, or the same fault
-abbrev with_lines : List ℕ → Result (List BulkAction) BodyFault → Result (List BulkItem) BodyFault
+abbrev pub with_lines : List ℕ → Result (List BulkAction) BodyFault → Result (List BulkItem) BodyFault
 with_lines body (Ok actions) = Ok (items_with body actions)
 with_lines body (Err fault) = Err fault
 
@@ -116,7 +116,7 @@ lines-onto body action (Ok rest) = refl
 lines-onto body action (Err fault) = refl
 
 -- the items from a byte on, at most so many
-abbrev items_from : Option (List ℕ) → List ℕ → ℕ → ℕ → Result (List BulkItem) BodyFault
+abbrev pub items_from : Option (List ℕ) → List ℕ → ℕ → ℕ → Result (List BulkItem) BodyFault
 items_from index body most at = all_from (λ (item : BulkItem). item.next) (item_at index body) most at
 
 lines-more : (index : Option (List ℕ)) (body : List ℕ) (most : ℕ) (found : Result (Option BulkAction) BodyFault)

@@ -8,6 +8,7 @@ use Rattle.doc_json.specs.Bulks.{LiesIn, item_of}
 use Rattle.doc_json.specs.declared.bulk.BulkAction.{BulkAction}
 use Rattle.list_machine.specs.declared.event.Limits.{Limits}
 use Rattle.es_route.specs.Items.{items_with}
+use Rattle.es_rest.specs.declared.bulk.Written.{Written}
 use Rattle.es_rest.specs.Led.{ItemCut, ItemDone}
 use Rattle.es_rest.proofs.Bulks.{Gone, gone_all, gone_cut, gone_done, gone_none, none_left}
 use Rattle.es_rest.proofs.Led.{by_names}
@@ -21,7 +22,7 @@ loop-action-init g c =
     let old = s.front c.args.service.now in
     let body = c.args.body.now in
     let all = items_with body c.args.items.items in
-    let written = record { lines = c.new.result; changed = c.make.result } in
+    let written : Written = record { lines = c.new.result; changed = c.make.result } in
     let first = c.into_iter-action-iterator.ensures.into_iter_gives in
     record {
       gone = subst (λ (l : List BulkAction). Gone limits seat c.args.moment all old old written (items_with body l)) (sym first.0)

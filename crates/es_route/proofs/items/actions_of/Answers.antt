@@ -16,7 +16,7 @@ items-preserved c =
     let lies = rw c.in-Ok-Some.field-0-is at c.in-Ok-Some.ensures.within in
     walk_next (option_map (λ name. name.now) c.args.index) c.args.body.now c.items.at c.in-Ok-Some.action c.items.actions.items c.push_reserved.new.self.items
     (c.in-Ok-Some.ensures.answer ∙ ap Ok c.in-Ok-Some.field-0-is) on.0 on.1 lies
-    (c.push_reserved.ensures.items ∙ ap (λ (l : List BulkAction). l ++ c.in-Ok-Some.action ∷ []) c.in_ok-reserve.ensures.items) c.items.invariant
+    (c.push_reserved.ensures.items ∙ ap (λ (l : List BulkAction). l ++ c.in-Ok-Some.action ∷ []) c.in_ok-reserve-in-Ok-Some.ensures.items) c.items.invariant
 
 -- at a fault
 pub returns-in-Err-Is-clause-answer : goal.returns-in-Err-Is-clause-answer

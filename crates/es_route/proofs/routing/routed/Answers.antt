@@ -12,9 +12,10 @@ unfolding asked_of
 returns-then-unreadable-clause-answer c =
     let request = c.args.request in
     let unreadable = is_unreadable request in
-    answers_same (asked_when unreadable (asked_at request c.resource_of-resource.result)) (asked_when unreadable (asked_at request (resource_of request.path))) c.moment_first.result
+    let resource = c.resource_of-resource.result in
+    answers_same (asked_when unreadable (asked_at request resource)) (asked_when unreadable (asked_at request (resource_of request.path))) c.moment_first.result
     (ap (λ (p : Option Resource). asked_when unreadable (asked_at request p)) (sym (c.resource_of-resource.ensures ∙ ap resource_of c.as_str.ensures)))
-    (answers_unreadable c.asked_at-asked.result c.moment_first.result (asked_at request c.resource_of-resource.result) unreadable
+    (answers_unreadable c.asked_at-asked.result c.moment_first.result (asked_at request resource) unreadable
     (sym c.is_unreadable-unreadable.ensures ∙ c.if-unreadable.true) c.moment_first.ensures.answer c.asked_at-asked.ensures.answer)
 
 pub returns-else-unreadable-clause-answer : goal.returns-else-unreadable-clause-answer
@@ -22,6 +23,7 @@ unfolding asked_of
 returns-else-unreadable-clause-answer c =
     let request = c.args.request in
     let unreadable = is_unreadable request in
-    answers_same (asked_when unreadable (asked_at request c.resource_of-resource.result)) (asked_when unreadable (asked_at request (resource_of request.path))) c.asked_at-asked.result
+    let resource = c.resource_of-resource.result in
+    answers_same (asked_when unreadable (asked_at request resource)) (asked_when unreadable (asked_at request (resource_of request.path))) c.asked_at-asked.result
     (ap (λ (p : Option Resource). asked_when unreadable (asked_at request p)) (sym (c.resource_of-resource.ensures ∙ ap resource_of c.as_str.ensures)))
-    (answers_readable c.asked_at-asked.result (asked_at request c.resource_of-resource.result) unreadable (sym c.is_unreadable-unreadable.ensures ∙ c.if-unreadable.false) c.asked_at-asked.ensures.answer)
+    (answers_readable c.asked_at-asked.result (asked_at request resource) unreadable (sym c.is_unreadable-unreadable.ensures ∙ c.if-unreadable.false) c.asked_at-asked.ensures.answer)
