@@ -3,6 +3,7 @@ ghost use Rattle.std.specs.Prelude.{None};
 
 use crate::adapter::{Input, Output};
 use crate::run::{Status, run};
+use crate::solo::Solo;
 use context_book::View;
 use es_core::{Core, Plan};
 use es_outside::{Failed, MemSink, MemSource, Sink, Source};
@@ -288,7 +289,8 @@ fn errors_are_faults(rt: HostRuntime) {
 fn is_send<T: Send>() {}
 
 #[test]
-fn the_core_its_plans_and_views_are_send(_rt: HostRuntime) -> Result<(), Fail> {
+fn the_service_its_plans_and_views_are_send(_rt: HostRuntime) -> Result<(), Fail> {
+    is_send::<Solo>();
     is_send::<Core>();
     is_send::<Plan>();
     is_send::<View>();
