@@ -28,7 +28,10 @@ loop-action-init g c =
       gone = subst (λ (l : List BulkAction). Gone limits seat c.args.moment all old old written (items_with body l)) (sym first.0)
           (gone_none limits seat c.args.moment all old written c.new.ensures.items c.make.ensures);
       within = subst (All (LiesIn body)) (sym first.0) c.requires;
-      counted = first.1 ∙ (c.args.items.len ∙ ap length (sym first.0));
+      counted =
+          let long = c.args.items.ok.0 in
+          let same = ap length first.0 in
+          omega (arith, first.1, long, same);
       seat = refl;
       limits = refl;
     }
