@@ -82,7 +82,7 @@ def pit_id(number):
 
 
 def generated(count):
-    """Bulks of 500 documents, each but the first with a removal, and a refresh and a point in time behind each. Then all documents of
+    """Bulks of 500 documents, each but the first with a removal, and a refresh and a point in time after each. Then all documents of
     the keyword `g0` that each point in time sees, in pages of 50; the points in time are closed, and the documents counted."""
     fields = b'"n":{"type":"long"},"g":{"type":"keyword"}'
     yield from request(b"PUT /gen", b'{"settings":{"number_of_shards":2},"mappings":{"properties":{%s}}}' % fields)

@@ -1,6 +1,6 @@
 //! The calls of `es_query`.
-use crate::es_types_fields::mapping_of_n;
 use crate::es_types_calls::{copies, text};
+use crate::es_types_fields::mapping_of_n;
 use es_query::{Bool, Edge, Need, Query, Side, bounds_of, nothing_excluded_matches};
 use es_types::{Bound, Bounds, Items, Row, Value};
 use std::alloc::Global;

@@ -1,6 +1,6 @@
 //! The calls of `es_sort`.
-use crate::es_types_fields::mapping_of_n;
 use crate::es_types_calls::{bytes, copies, text};
+use crate::es_types_fields::mapping_of_n;
 use es_sort::{Keys, SortBy, SortKey, SortSpec, strict_total_order};
 use es_types::{DocId, Items, Mapping, NoMemory, Row, Value};
 use std::alloc::Global;

@@ -3,20 +3,20 @@
 #![tactic(auto)]
 
 #[cfg(test)]
-mod es_types_fields;
-#[cfg(test)]
 mod ctx_ids_calls;
 #[cfg(test)]
 mod es_outside_calls;
 #[cfg(test)]
 mod es_query_calls;
 #[cfg(test)]
-mod reader_gate_calls;
-#[cfg(test)]
-mod slice_rule_calls;
-#[cfg(test)]
 mod es_sort_calls;
 #[cfg(test)]
 mod es_types_calls;
 #[cfg(test)]
+mod es_types_fields;
+#[cfg(test)]
 mod http_wire_calls;
+#[cfg(test)]
+mod reader_gate_calls;
+#[cfg(test)]
+mod slice_rule_calls;

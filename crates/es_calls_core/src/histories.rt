@@ -291,7 +291,7 @@ const SORTED: &str = "
 # Five documents: f and d are equal, and c has no number. The first hit is left out.
 0 search logs sort=n/asc -> 2 of 5 logs f 2 logs d 2 in 2 steps skipped 1 of 5
 0 search logs sort=n/desc -> 2 of 5 logs f 2 logs d 2 in 2 steps skipped 1 of 5
-# Behind a value it is left out too, and all are counted.
+# After a value it is left out too, and all are counted.
 0 search logs sort=n/asc after=1 -> 2 of 5 logs d 2 logs a 3 in 2 steps skipped 1 of 5
 0 search logs sort=n/desc after=3 -> 2 of 5 logs d 2 logs b 1 in 2 steps skipped 1 of 5
 0 search logs sort=n/asc after=3 -> 0 of 5 in 2 steps skipped 1 of 5

@@ -19,7 +19,7 @@ const BEFORE: &str = "0 create logs -> done
 0 open logs 1m -> opened 2";
 
 // Both documents change, one point in time is closed, and the other is let go.
-const BEHIND: &str = "0 remove logs c -> deleted 3
+const AFTER: &str = "0 remove logs c -> deleted 3
 0 put logs d n=2 -> updated 4
 0 publish logs 3 4 -> done
 0 close 1 -> closed 5
@@ -63,7 +63,7 @@ fn outlives(rt: &impl Abort, alloc: Global, asked: &str, want: &str) -> Result<(
     let mut core = Core::make(alloc, limits)?;
     goes_on(rt, alloc, &mut core, BEFORE)?;
     let plan = plan(alloc, &mut core, asked)?;
-    goes_on(rt, alloc, &mut core, BEHIND)?;
+    goes_on(rt, alloc, &mut core, AFTER)?;
     drop(core);
     answers(rt, alloc, plan, want)
 }

@@ -4,12 +4,12 @@
 #[cfg(test)]
 mod doc_json_calls;
 #[cfg(test)]
-mod given;
+mod es_rest_calls;
 #[cfg(test)]
 mod found;
 #[cfg(test)]
-mod reply_json_calls;
+mod given;
 #[cfg(test)]
-mod es_rest_calls;
+mod reply_json_calls;
 #[cfg(test)]
 mod search_json_calls;

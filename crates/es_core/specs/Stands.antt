@@ -28,8 +28,8 @@ pub record Stands (limits : Limits) (core : Core) (history : History) : Type 0 w
 
 -- Whatever history the core stood for, of fewer than 2^53 entries, it now stands for that history and the entry,
 -- and what it answers, at once or by its plan, is the machine's reply after that history.
-abbrev pub Turns : Core → Core → Event → ℕ → Turned → Type 0
-Turns old new event moment turned =
+abbrev pub TakesStep : Core → Core → Event → ℕ → Turned → Type 0
+TakesStep old new event moment turned =
     (limits : Limits) (history : History) (who : ℕ) → Stands limits old history → length history < MOST_ENTRIES
     → Stands limits new (history ++ record { who = who; moment = moment; event = event } ∷ [])
     × (turned_reply turned ≡ reply_of limits history (record { who = who; moment = moment; event = event }))

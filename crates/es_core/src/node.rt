@@ -32,7 +32,7 @@ impl Core {
     ghost use Rattle.list_machine.specs.State.{index_of, view_of as seen_of};
     ghost use Rattle.es_core.specs.Plans.{CanAnswer, HandsOut, turned_reply};
     ghost use Rattle.es_core.specs.Contexts.{LeavesOpened, MayWant, TurnMayWant, left_by};
-    ghost use Rattle.es_core.specs.Stands.{Rests, Stands, StandsOn, Turns};
+    ghost use Rattle.es_core.specs.Stands.{Rests, Stands, StandsOn, TakesStep};
     ghost use Rattle.es_core.specs.Steps.{IsSame, Steps};
 
     /// A core with the empty index `docs`, which stands for the empty history.
@@ -58,7 +58,7 @@ impl Core {
     ) -> Result<Turned, NoMemory>
         requires object { PutsObject event.now }
         requires bounded { IsBounded event.now }
-        ensures turns { IfOk result (Turns self.old self.new event.now moment) }
+        ensures turns { IfOk result (TakesStep self.old self.new event.now moment) }
         ensures runs { IfOk result CanAnswer }
         ensures hands_out { IfOk result (HandsOut event.now (max self.old.moment moment) self.old.catalog self.old.book.contexts self.new.book.contexts) }
         ensures book { OnErr result (self.new.book ≡ self.old.book) }

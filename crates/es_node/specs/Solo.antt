@@ -36,7 +36,7 @@ rest moment = record { who = 1; moment = moment; event = Quiet }
 abbrev pub Helps : Call
 Helps moment old new = new ≡ old
 
--- a tidying adds one Quiet, or nothing where the history is full or memory ran out
+-- a tidying adds one Quiet, or nothing
 abbrev pub Tidies : Call
 Tidies moment old new = (new ≡ old ++ rest moment ∷ []) ⊎ (new ≡ old)
 

@@ -85,7 +85,8 @@ fn answer(alloc: Global, turned: Turned) -> Result<Reply, NoMemory>
     }
 }
 
-// Takes the step of an entry and writes it down. Nothing changes where memory runs out.
+// Takes the step of an entry and writes it down. Where memory runs out the core
+// stands for what it stood for, and the journal is as it was.
 fn advance(
     core: &mut Core,
     journal: &mut Vec<Snapshot<Entry>>,
@@ -105,7 +106,8 @@ fn advance(
     Ok(turned)
 }
 
-// Lets go what is over, and writes down the Quiet of it. Nothing changes where memory runs out.
+// Lets go what is over, and writes down the Quiet of it. Where memory runs out the core
+// stands for what it stood for, and the journal is as it was.
 fn reap(core: &mut Core, journal: &mut Vec<Snapshot<Entry>>, moment: Moment) -> Result<(), NoMemory>
     ensures rests { OnOk result (Rests core.old core.new moment) }
     ensures left { OnOk result (core.new.book.contexts ≡ left_by Chore.Reap (max core.old.moment moment) core.old.book.contexts) }

@@ -14,8 +14,8 @@ pub trait Clock {
     /// The last answer, 0 at first, where that is told. What is told at one call is told at all later ones.
     ghost last: { Self → Option ℕ };
 
-    /// What a question says of the clock before it, what it was told, its answer, and the clock after it. Nothing
-    /// but a question gives this, so who states it of a clock has asked.
+    /// What a question says of the clock before it, what it was told, its answer, and the clock after it. Code that
+    /// works for any clock has it of the question alone.
     ghost asked: { Self → Option ℕ → ℕ → Self → Type 0 };
 
     /// The same of a pause: the clock before it and after it.

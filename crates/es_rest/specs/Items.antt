@@ -19,7 +19,7 @@ abbrev pub write_and : Result Event RestFault → List Event → List Event
 write_and (Ok event) events = event ∷ events
 write_and (Err fault) events = events
 
--- the Writes of those that are not
+-- the Writes of the items that aren't refused by themselves
 abbrev pub writes_of : List BulkItem → List Event
 writes_of [] = []
 writes_of (item ∷ items) = write_and (write_of item) (writes_of items)

@@ -17,14 +17,19 @@ use std::alloc::Global;
 #[derive(Drop)]
 pub enum Work {
     /// One event, and by what its reply is answered.
-    One { event: Event, label: Label },
+    One {
+        event: Event,
+        label: Label,
+    },
     Bulk {
         index: Option<Text>,
         body: Bytes,
         refresh: bool,
         items: Items<BulkAction>,
     },
-    Refresh { index: IndexName },
+    Refresh {
+        index: IndexName,
+    },
 }
 
 // The closing of one point in time.

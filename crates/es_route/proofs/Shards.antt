@@ -1,5 +1,5 @@
 -- What a body asks for keeps within its limits.
-use Rattle.std.proofs.Common.{◌≡◌, refl, subst, ◌&&◌, ◌≤◌, ℕ, Bool, true, false, List, Option, Some, None, Result, Ok, Err}
+use Rattle.std.proofs.Common.{◌≡◌, refl, subst, ◌&&◌, ◌≤◌, ℕ, Bool, true, false, List, Option, Some, None, Ok, Err}
 use Rattle.std.specs.Prelude.{nat_le, if◌then◌else◌, codes, ◌∷◌, []}
 use Rattle.std.proofs.lemmas.Bool.{leb-true}
 use Rattle.serde_json.specs.Data.{Data, Members}

@@ -1,5 +1,5 @@
 -- What a request asks for, or the first refusal that it meets.
-use Rattle.std.specs.Prelude.{◌≡◌, ℕ, Bool, true, false, if◌then◌else◌, List, Option, Some, None, Result, Ok, Err, codes, IsTrue}
+use Rattle.std.specs.Prelude.{◌≡◌, ℕ, Bool, true, false, if◌then◌else◌, Option, Some, None, Result, Ok, Err, codes, IsTrue}
 use Rattle.es_types.specs.declared.limit.LimitName.TheVariants as limit
 use Rattle.ctx_ids.specs.declared.id.ContextId.{ContextId}
 use Rattle.http_wire.specs.declared.request.Request.{Request}

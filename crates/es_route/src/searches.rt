@@ -1,5 +1,6 @@
 //! What a search asks for.
 ghost use Rattle.std.specs.Prelude.{◌≡◌, ◌≤◌, IfOk};
+ghost use Rattle.es_types.specs.declared.limits.TheConstants.{LEAST_BATCH};
 ghost use Rattle.search_json.specs.Searches.{search_of};
 ghost use Rattle.list_machine.specs.Run.{IsWithinLimits};
 ghost use Rattle.es_route.specs.Answers.{Answers};
@@ -64,7 +65,7 @@ fn body_of(
     batch: u32,
     request: &Request,
 ) -> Result<Result<SearchBody, BodyFault>, NoMemory>
-    requires least { 2 ≤ batch }
+    requires least { LEAST_BATCH ≤ batch }
     requires most { batch ≤ MOST_BATCH }
     ensures is { IfOk result (λ asked. asked ≡ search_of has_index batch request.now.body) }
     ensures within { IfOk result AreWithinLimits }

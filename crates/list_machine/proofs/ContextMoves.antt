@@ -8,7 +8,7 @@ use Rattle.std.proofs.lemmas.List.Sums.{sum_by-cons}
 use Rattle.list_machine.specs.declared.event.Which.{Which}
 use Rattle.list_machine.specs.Views.{View}
 use Rattle.list_machine.specs.State.{Context, context_of, is_live}
-use Rattle.list_machine.specs.Step.{close_one, is_closing, keep_one, kept_till}
+use Rattle.list_machine.specs.Step.{close_one, is_closing, keep_one, later_expiry}
 use Rattle.list_machine.proofs.Ordered.{pairs_head, pairs_tail}
 
 -- what a context has for good
@@ -105,7 +105,7 @@ found_all P number (first ∷ contexts) context rise e h =
 -- a context that is kept longer is the same one
 pub keep_keeps : (moment number keep : ℕ) → Keeps (keep_one moment number keep)
 keep_keeps moment number keep context =
-    cond_both (eqb context.number number) (record context { expiry = kept_till moment keep context.expiry }) context (λ (it : Context). named it ≡ named context) (λ _. refl) (λ _. refl)
+    cond_both (eqb context.number number) (record context { expiry = later_expiry moment keep context.expiry }) context (λ (it : Context). named it ≡ named context) (λ _. refl) (λ _. refl)
 
 -- where that one is live, not more are live
 pub keep_lives : (moment number keep : ℕ) (contexts : List Context) (context : Context) → context_of number contexts ≡ Some context → is_live moment context ≡ true → Rise contexts
@@ -114,7 +114,7 @@ keep_lives moment number keep contexts context e live rise =
     count_fewer (is_live moment) (keep_one moment number keep) contexts
     (All-weaker (λ (c : Context). c.number ≡ number → is_live moment c ≡ true) (λ (c : Context). is_live moment (keep_one moment number keep c) ≡ true → is_live moment c ≡ true)
     (λ c its.
-    cond_both (eqb c.number number) (record c { expiry = kept_till moment keep c.expiry }) c (λ (it : Context). is_live moment it ≡ true → is_live moment c ≡ true)
+    cond_both (eqb c.number number) (record c { expiry = later_expiry moment keep c.expiry }) c (λ (it : Context). is_live moment it ≡ true → is_live moment c ≡ true)
     (λ same _. its (eqb-true c.number number same)) (λ _ lives. lives))
     contexts (found_all (λ (c : Context). is_live moment c ≡ true) number contexts context rise e live))
 

@@ -143,12 +143,12 @@ abbrev pub is_fit : View → SearchRequest → Bool
 is_fit view request = is_none (unfit view request)
 
 -- the last live moment of a context that is kept so long from a moment on: it is never shortened
-abbrev pub kept_till : ℕ → ℕ → ℕ → ℕ
-kept_till moment keep expiry = max expiry (moment + keep)
+abbrev pub later_expiry : ℕ → ℕ → ℕ → ℕ
+later_expiry moment keep expiry = max expiry (moment + keep)
 
 abbrev pub keep_one : ℕ → ℕ → ℕ → Context → Context
 keep_one moment number keep context =
-    if context.number == number then record context { expiry = kept_till moment keep context.expiry } else context
+    if context.number == number then record context { expiry = later_expiry moment keep context.expiry } else context
 
 -- the context of that number is kept so long from now on, where that is asked
 abbrev pub keep_longer : State → ℕ → Option ℕ → State

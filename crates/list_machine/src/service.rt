@@ -20,8 +20,8 @@ pub trait Service {
 
     ghost limits: { Self → Limits };
 
-    /// What a call of `help` says of its moment and of the history before and after it. Nothing but a call gives
-    /// this, so who states it has called `help`.
+    /// What a call of `help` says of its moment and of the history before and after it. Code that works for any
+    /// service has it of the call alone.
     ghost helped: { ℕ → List Entry → List Entry → Type 0 };
 
     /// The same of a call of `tidy`.

@@ -52,7 +52,7 @@ fn open<B: Drop>(alloc: Global, body: Arc<B>) -> Result<Hold<B>, AllocError>
     }
 }
 
-/// A reader of that body, which its owner holds. `Err` says that memory ran out alone, and has the body.
+/// A reader of that body, which its owner holds. `Err` says only that memory ran out, and has the body.
 pub fn make_reader<B: Drop>(alloc: Global, body: Arc<B>) -> Result<Owner<B>, Arc<B>>
     ensures made { IfOk result (λ o. (o.body ≡ arc_value body) × (o.lent ≡ 0)) }
     ensures back { IfErr result (λ b. b ≡ body) }
@@ -78,7 +78,7 @@ impl<B: Drop> Owner<B> {
         self.lent
     }
 
-    /// A pass with a hold of its own. After lack of memory the holds are as before.
+    /// A pass with a hold of its own. Where memory ran out the holds are as before.
     pub fn lend(&mut self, alloc: Global) -> Result<Pass<B>, AllocError>
         requires { self.old.lent < 2 ^ 53 }
         ensures pass { IfOk result (λ p. (p.reader ≡ self.old.reader) × (p.body ≡ self.old.body)) }

@@ -36,7 +36,11 @@ fn reply_text(alloc: Global, route: &RouteName, reply: &Reply) -> Result<Vec<u8>
         (RouteName::ClosePit, Reply::Closed { freed }) => {
             Ok(closed_text(alloc, *freed)?.into_bytes())
         }
-        (RouteName::Search { pit }, Reply::Found(answer)) => found_text(alloc, lead_of(*pit), answer),
+        (RouteName::Search { pit }, Reply::Found(answer)) => found_text(
+            alloc,
+            lead_of(*pit),
+            answer,
+        ),
         _ => Ok(Vec::new(alloc)),
     }
 }

@@ -1,6 +1,6 @@
 //! The body of a search.
 ghost use Rattle.std.specs.Prelude.{◌≡◌, ◌+◌, ◌≤◌, IfNone, IfOk, IfSome, length, option_map};
-ghost use Rattle.es_types.specs.declared.limits.TheConstants.{MOST_BATCH};
+ghost use Rattle.es_types.specs.declared.limits.TheConstants.{LEAST_BATCH, MOST_BATCH, SORT_KEYS};
 ghost use Rattle.serde_json.specs.View.{view};
 ghost use Rattle.es_types.specs.Fail.{Answers};
 ghost use Rattle.slice_rule.specs.Parts.{IsSlice};
@@ -57,7 +57,7 @@ pub fn read_search(
     has_index: bool,
     batch: u32,
 ) -> Result<SearchBody, Fail<BodyFault>>
-    requires batch_least { 2 ≤ batch }
+    requires batch_least { LEAST_BATCH ≤ batch }
     requires batch_most { batch ≤ MOST_BATCH }
     ensures read { Answers result (search_of has_index batch body.now) }
     ensures within { IfOk result (λ it. IsWithinLimits it.request) }
@@ -75,7 +75,7 @@ fn of_form(
     batch: u32,
     value: &Value,
 ) -> Result<SearchBody, Fail<BodyFault>>
-    requires batch_least { 2 ≤ batch }
+    requires batch_least { LEAST_BATCH ≤ batch }
     requires batch_most { batch ≤ MOST_BATCH }
     ensures is { Answers result (of_form has_index batch (view value.now)) }
     ensures within { IfOk result (λ it. IsWithinLimits it.request) }
@@ -97,7 +97,7 @@ fn of_parts(
     batch: u32,
     value: &Value,
 ) -> Result<SearchBody, Fail<BodyFault>>
-    requires batch_least { 2 ≤ batch }
+    requires batch_least { LEAST_BATCH ≤ batch }
     requires batch_most { batch ≤ MOST_BATCH }
     ensures is { Answers result (of_parts has_index named batch (view value.now)) }
     ensures within { IfOk result (λ it. IsWithinLimits it.request) }
@@ -124,7 +124,7 @@ fn within_limits(
     keys: Vec<NamedKey>,
     query: Query,
 ) -> Result<SearchBody, Fail<BodyFault>>
-    requires batch_least { 2 ≤ batch }
+    requires batch_least { LEAST_BATCH ≤ batch }
     requires batch_most { batch ≤ MOST_BATCH }
     ensures is { Answers result (within_limits has_index named batch span keys.items query) }
     ensures within { IfOk result (λ it. IsWithinLimits it.request) }
@@ -187,7 +187,7 @@ fn first_broken(
     ensures first { result ≡ first_broken has_index named span.now keys.now }
     ensures window { IfNone result (span.now.from + span.now.size ≤ WINDOW) }
     ensures slice { IfNone result (IfSome span.now.slice IsSlice) }
-    ensures keys { IfNone result (length keys.now ≤ 64) }
+    ensures keys { IfNone result (length keys.now ≤ SORT_KEYS) }
 {
     if breaks_keep(named) {
         return Some(LimitName::KeepAlive);

@@ -36,6 +36,9 @@ fn expired_ones_do_not_count(rt: HostRuntime) -> Result<(), Fail> {
         let found = open(alloc, &mut solo, millis)?;
         assert!(rt; found == want, "at {millis}");
     }
+    let later = Moment::make(200_000).ok_or("a moment")?;
+    assert!(rt; !solo.help(later)?);
+    solo.tidy(later)?;
     solo.finish();
     Ok(())
 }

@@ -134,7 +134,7 @@ PUT /docs/_doc/a%2Fb {}
 "#;
 
 #[test]
-fn refreshes_behind_writes(rt: HostRuntime) -> Result<(), Fail> {
+fn refreshes_after_writes(rt: HostRuntime) -> Result<(), Fail> {
     plays(&rt, rt.alloc(), REMOVED)
 }
 

@@ -1,6 +1,6 @@
 //! The page of a search, and its counts.
 ghost use Rattle.std.specs.Prelude.{◌≡◌, ◌<◌, ◌≤◌, All, filter, length, map, IfOk, IfSome};
-ghost use Rattle.es_types.specs.declared.limits.TheConstants.{ALL_SHARDS};
+ghost use Rattle.es_types.specs.declared.limits.TheConstants.{ALL_SHARDS, LEAST_BATCH};
 ghost use Rattle.es_query.specs.Limits.{bounds_of};
 ghost use Rattle.slice_rule.specs.Parts.{IsSlice};
 ghost use Rattle.list_machine.specs.declared.page.candidates.Candidate.{Candidate as Found};
@@ -49,7 +49,7 @@ pub fn answer(
 }
 
 fn phases(shards: u32, batch: u32) -> u32
-    requires some { 2 ≤ batch }
+    requires some { LEAST_BATCH ≤ batch }
     requires few { shards ≤ ALL_SHARDS }
     ensures { result ≡ phases shards batch }
 {

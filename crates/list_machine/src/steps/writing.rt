@@ -124,7 +124,7 @@ fn will_stand(rows: &[Row], pending: &[Op], id: &DocId) -> bool
 {
     let mut stands = stands_in(rows, id);
     for op in pending {
-        stands = stands_behind(op, id, stands);
+        stands = stands_after(op, id, stands);
     }
     stands
 }
@@ -136,7 +136,7 @@ fn stands_in(rows: &[Row], id: &DocId) -> bool
 }
 
 /// Whether the id has a row after an operation, by whether it had one before.
-fn stands_behind(op: &Op, id: &DocId, stood: bool) -> bool
+fn stands_after(op: &Op, id: &DocId, stood: bool) -> bool
     ensures { result ≡ stands_after op.now id.now stood }
 {
     match op {

@@ -4,7 +4,7 @@ use Rattle.doc_json.specs.declared.bulk.BulkAction.{BulkAction}
 use Rattle.es_route.specs.Limits.{body_fault}
 use Rattle.es_route.specs.Items.{actions_of, checked}
 use Rattle.es_route.specs.Answers.{Answers}
-use Rattle.es_route.proofs.Walks.{fault_told, walk_ends, walk_fails, walk_next, walk_starts}
+use Rattle.es_route.proofs.Walks.{fault_told, walk_fails, walk_next, walk_starts}
 use Rattle.es_route.proofs.items.actions_of.Goals as goal
 
 pub items-init : goal.items-init

@@ -5,6 +5,6 @@ use Rattle.list_machine.proofs.steps.writing.will_stand.Goals as goal
 
 pub loop-op-preserved : goal.loop-op-preserved
 loop-op-preserved c base =
-    c.stands_behind-stands.ensures
+    c.stands_after-stands.ensures
     ∙ ap (stands_after c.op-item.result c.args.id.now) (c.loop-op.invariant base)
     ∙ sym (has_id_more c.args.rows.now base c.args.pending.now c.loop-op.op-index c.op-item.result c.args.id.now (omega arith) c.op-item.is)
