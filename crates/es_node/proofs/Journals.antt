@@ -28,7 +28,7 @@ use Rattle.es_core.specs.Plans.{turned_reply}
 use Rattle.es_core.specs.Stands.{Rests, Stands, StandsOn}
 use Rattle.es_node.specs.Solo.{Advances, IsOwn, IsRunning, Tidies, entries, rest}
 use Rattle.es_rest.proofs.Talks.{grows_not}
-use Rattle.core.specs.declared.snapshot.Snapshot.{Snapshot}
+use Rattle.std.specs.declared.snapshot.Snapshot.{Snapshot}
 
 -- as many entries as the journal has
 pub entries_count : (journal : List (Snapshot Entry)) → length (entries journal) ≡ length journal

@@ -98,7 +98,7 @@ fn advance(
     ensures runs { IfOk result CanAnswer }
     ensures journal { IfOk result (λ _. entries journal.new.items ≡ entries journal.old.items ++ entry ∷ []) }
     ensures core_kept { OnErr result (StandsOn core.old core.new) }
-    ensures journal_kept { OnErr result (journal.new.items ≡ journal.old.items) }
+    ensures journal_kept { OnErr result (entries journal.new.items ≡ entries journal.old.items) }
 {
     journal.reserve(1)?;
     let turned = core.turn(&entry.event, entry.moment, Brought::Nothing)?;
@@ -113,7 +113,7 @@ fn reap(core: &mut Core, journal: &mut Vec<Snapshot<Entry>>, moment: Moment) -> 
     ensures left { OnOk result (core.new.book.contexts ≡ left_by Chore.Reap (max core.old.moment moment) core.old.book.contexts) }
     ensures journal { OnOk result (entries journal.new.items ≡ entries journal.old.items ++ rest moment ∷ []) }
     ensures core_kept { OnErr result (StandsOn core.old core.new) }
-    ensures journal_kept { OnErr result (journal.new.items ≡ journal.old.items) }
+    ensures journal_kept { OnErr result (entries journal.new.items ≡ entries journal.old.items) }
 {
     journal.reserve(1)?;
     let _ = core.quiet(Chore::Reap, moment)?;
